@@ -1,0 +1,3 @@
+mod Steps
+mod Names
+pub mod Bags

@@ -1,0 +1,9 @@
+pub mod Limits
+pub mod Name
+pub mod Tree
+pub mod Point
+pub mod Causes
+pub mod Padded
+pub mod Path
+pub mod Chain
+pub mod Bags
