@@ -1,0 +1,14 @@
+pub mod Distance
+pub mod Metric
+pub mod Table
+pub mod Valid
+pub mod Choices
+pub mod Chains
+pub mod Coordinates
+pub mod Next
+pub mod Opening
+pub mod Floor
+pub mod Refutation
+pub mod Stated
+pub mod Records
+pub mod Steady
