@@ -1,3 +1,4 @@
 pub mod Distances
 pub mod Ranges
+pub mod Refutations
 mod Tables

@@ -9,6 +9,7 @@ pub mod Next
 pub mod Opening
 pub mod Floor
 pub mod Refutation
+pub mod Nodes
 pub mod Stated
 pub mod Records
 pub mod Steady
