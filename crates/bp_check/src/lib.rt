@@ -1,0 +1,6 @@
+//! What a right design is: the conditions that a checker tests, the first of them that fails, and what `design` writes.
+#![tactic(auto)]
+
+mod verdict;
+
+pub use verdict::{Reason, Verdict};

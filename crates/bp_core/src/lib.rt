@@ -1,0 +1,2 @@
+//! What a search has come to when it ends.
+#![tactic(auto)]
