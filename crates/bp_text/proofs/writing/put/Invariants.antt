@@ -1,0 +1,11 @@
+use Rattle.std.proofs.Common.{◌≤◌, ◌-◌, length, take}
+use Rattle.bp_base.specs.Causes.{Appends}
+use Rattle.bp_text.proofs.writing.put.Given as goal
+
+abbrev pub invariant-loop-at : goal.invariant-loop-at
+invariant-loop-at g l =
+    (l.at ≤ length l.bytes) × Appends (g.K.Sink.held l.fn.sink) (g.K.Sink.held l.sink) (take l.at l.bytes)
+    × (g.K.Sink.faults l.fn.sink ≤ g.K.Sink.faults l.sink)
+
+abbrev pub decreases-loop-at : goal.decreases-loop-at
+decreases-loop-at g l = length l.bytes - l.at

@@ -1,0 +1,9 @@
+use Rattle.std.proofs.Common.{◌≤◌, take}
+use Rattle.std.specs.List.{flat_map}
+use Rattle.bp_base.specs.Causes.{Appends}
+use Rattle.bp_text.proofs.writing.put_parts.Given as goal
+
+abbrev pub invariant-loop-part : goal.invariant-loop-part
+invariant-loop-part g l =
+    Appends (g.K.Sink.held l.fn.sink) (g.K.Sink.held l.sink) (flat_map (λ part. part.now) (take l.part-index l.parts))
+    × (g.K.Sink.faults l.fn.sink ≤ g.K.Sink.faults l.sink)

@@ -1,0 +1,13 @@
+//! Lines, numbers, and bytes that are written whole. Nothing here takes memory.
+#![tactic(auto)]
+
+mod cut;
+mod digits;
+mod writing;
+
+pub use cut::line;
+pub use digits::{long_number, number};
+pub use writing::{put, put_number, put_parts};
+
+#[cfg(test)]
+mod tests;
