@@ -1,13 +1,101 @@
--- What stands in a list stands in each list with the same values.
-use Rattle.std.proofs.Common.{◌≡◌, ◌≢◌, ℕ, zero, suc, ◌+◌, ◌<◌, ◌≤◌, Bool, true, false, true≢false, ◌&&◌, ◌==◌, cond, nat_eq, eqb, List, [], ◌∷◌, length, get_or, sym, refl, ap, ◌∙◌, subst, arith, rules}
-use Rattle.std.specs.List.{sum_by, Contains}
-use Rattle.std.proofs.lemmas.List.Sums.{sum_by-cons}
+-- Sums over lists, and lists with the same values: what stands in one stands in the other.
+use Rattle.std.proofs.Common.{◌≡◌, ◌≢◌, ℕ, zero, suc, ◌+◌, ◌<◌, ◌≤◌, Bool, true, false, true≢false, ◌&&◌, ◌==◌, cond, nat_eq, eqb, List, [], ◌∷◌, ◌++◌, map, length, set, get_or, All, sym, refl, ap, ◌∙◌, subst, arith, rules}
+use Rattle.std.specs.List.{sum_by, flat_map, Contains}
+use Rattle.std.specs.List.Sorted.{IsPermutation}
+use Rattle.std.proofs.lemmas.List.Sums.{sum_by-cons, sum_by-append}
+use Rattle.std.proofs.lemmas.List.Sorted.{sum_by-IsPermutation}
+use Rattle.std.proofs.lemmas.List.{get_or_default}
+use mathlib.Core.Option.{some, some-injective, some-ne-none}
+use lib.ListN.{get_elem?}
 use Rattle.std.proofs.lemmas.Bool.Decides.{nat_tests}
 use Rattle.bp_base.specs.declared.path.Choice.{Choice}
 use Rattle.bp_base.specs.declared.path.Choice.TheVariants.{Left, Right, Below, Above}
 use Rattle.bp_base.specs.declared.path.Step.{Step}
 use Rattle.bp_base.specs.declared.record.Task.{Task}
 use Rattle.bp_base.specs.Bags.{AreSame, choice_number, same_step, same_path, same_task}
+
+-- Sums.
+
+module _ {X : Type 0} (f : X → ℕ) where
+  -- the sum after a change of one element
+  pub total_set : (xs : List X) (i : ℕ) (v w : X) → get_elem? xs i ≡ some v → sum_by f (set xs i w) + f v ≡ sum_by f xs + f w
+  total_set [] i v w at = absurd (some-ne-none v (sym at))
+  total_set (x ∷ xs) zero v w at = omega (arith, sum_by-cons f w xs, sum_by-cons f x xs, ap f (some-injective x v at))
+  total_set (x ∷ xs) (suc i) v w at = omega (arith, sum_by-cons f x (set xs i w), sum_by-cons f x xs, total_set xs i v w at)
+
+  -- a part is at most the sum
+  pub total_at : (xs : List X) (i : ℕ) (v : X) → get_elem? xs i ≡ some v → f v ≤ sum_by f xs
+  total_at [] i v at = absurd (some-ne-none v (sym at))
+  total_at (x ∷ xs) zero v at = omega (arith, sum_by-cons f x xs, ap f (some-injective x v at))
+  total_at (x ∷ xs) (suc i) v at = omega (arith, sum_by-cons f x xs, total_at xs i v at)
+
+  pub sum_by-map : {A : Type 0} (g : A → X) (ts : List A) → sum_by f (map g ts) ≡ sum_by (λ t. f (g t)) ts
+  sum_by-map g [] = refl
+  sum_by-map g (t ∷ ts) = omega (arith, sum_by-cons f (g t) (map g ts), sum_by-cons (λ t. f (g t)) t ts, sum_by-map g ts)
+
+  pub sum_by-flat_map : {A : Type 0} (g : A → List X) (ts : List A) → sum_by f (flat_map g ts) ≡ sum_by (λ t. sum_by f (g t)) ts
+  sum_by-flat_map g [] = refl
+  sum_by-flat_map g (t ∷ ts) = omega (arith, sum_by-append f (g t) (flat_map g ts), sum_by-cons (λ t. sum_by f (g t)) t ts, sum_by-flat_map g ts)
+
+  pub sum_by-plus : (g : X → ℕ) (xs : List X) → sum_by (λ x. f x + g x) xs ≡ sum_by f xs + sum_by g xs
+  sum_by-plus g [] = refl
+  sum_by-plus g (x ∷ xs) = omega (arith, sum_by-cons (λ x. f x + g x) x xs, sum_by-cons f x xs, sum_by-cons g x xs, sum_by-plus g xs)
+
+  -- where no element weighs more by f than by g, the sum doesn't either
+  pub sum_by-mono : (g : X → ℕ) (xs : List X) → ((x : X) → f x ≤ g x) → sum_by f xs ≤ sum_by g xs
+  sum_by-mono g [] le = omega arith
+  sum_by-mono g (x ∷ xs) le = omega (arith, sum_by-cons f x xs, sum_by-cons g x xs, le x, sum_by-mono g xs le)
+
+sum_by-ones : {X : Type 0} (xs : List X) → sum_by (λ x. 1) xs ≡ length xs
+sum_by-ones [] = refl
+sum_by-ones (x ∷ xs) = omega (arith, sum_by-cons (λ x. 1) x xs, sum_by-ones xs)
+
+-- Lists with the same values.
+
+module _ {X : Type 0} where
+  pub same_refl : (xs : List X) → AreSame xs xs
+  same_refl xs h = refl
+
+  pub same_sym : (xs ys : List X) → AreSame xs ys → AreSame ys xs
+  same_sym xs ys both h = sym (both h)
+
+  pub same_trans : (xs ys zs : List X) → AreSame xs ys → AreSame ys zs → AreSame xs zs
+  same_trans xs ys zs first second h = first h ∙ second h
+
+  pub same-IsPermutation : (xs ys : List X) → IsPermutation xs ys → AreSame xs ys
+  same-IsPermutation xs ys moves h = sym (sum_by-IsPermutation h xs ys moves)
+
+  pub same-length : (xs ys : List X) → AreSame xs ys → length xs ≡ length ys
+  same-length xs ys both = sym (sum_by-ones xs) ∙ both (λ x. 1) ∙ sum_by-ones ys
+
+  pub same-append : (xs ys us vs : List X) → AreSame xs ys → AreSame us vs → AreSame (xs ++ us) (ys ++ vs)
+  same-append xs ys us vs front back h = omega (arith, sum_by-append h xs us, sum_by-append h ys vs, front h, back h)
+
+  pub same-append_comm : (xs ys : List X) → AreSame (xs ++ ys) (ys ++ xs)
+  same-append_comm xs ys h = omega (arith, sum_by-append h xs ys, sum_by-append h ys xs)
+
+  pub same-cons : (x : X) (xs ys : List X) → AreSame xs ys → AreSame (x ∷ xs) (x ∷ ys)
+  same-cons x xs ys both h = omega (arith, sum_by-cons h x xs, sum_by-cons h x ys, both h)
+
+  -- an element may stand anywhere
+  pub same-middle : (xs : List X) (x : X) (ys : List X) → AreSame (xs ++ x ∷ ys) (x ∷ (xs ++ ys))
+  same-middle xs x ys h = omega (arith, sum_by-append h xs (x ∷ ys), sum_by-cons h x ys, sum_by-cons h x (xs ++ ys), sum_by-append h xs ys)
+
+  pub same_push : (xs : List X) (x : X) → AreSame (xs ++ x ∷ []) (x ∷ xs)
+  same_push xs x h = omega (arith, sum_by-append h xs (x ∷ []), sum_by-cons h x [], sum_by-cons h x xs)
+
+  -- what stands in front of both may be left out
+  pub same_cut : (us xs ys : List X) → AreSame (us ++ xs) (us ++ ys) → AreSame xs ys
+  same_cut us xs ys both h = omega (arith, sum_by-append h us xs, sum_by-append h us ys, both h)
+
+  pub same_cut_one : (x : X) (xs ys : List X) → AreSame (x ∷ xs) (x ∷ ys) → AreSame xs ys
+  same_cut_one x xs ys both h = omega (arith, sum_by-cons h x xs, sum_by-cons h x ys, both h)
+
+  pub same-map : {A : Type 0} (g : X → A) (xs ys : List X) → AreSame xs ys → AreSame (map g xs) (map g ys)
+  same-map g xs ys both h = sum_by-map h g xs ∙ both (λ x. h (g x)) ∙ sym (sum_by-map h g ys)
+
+  pub same-flat_map : {A : Type 0} (g : X → List A) (xs ys : List X) → AreSame xs ys → AreSame (flat_map g xs) (flat_map g ys)
+  same-flat_map g xs ys both h = sum_by-flat_map h g xs ∙ both (λ x. sum_by h (g x)) ∙ sym (sum_by-flat_map h g ys)
 
 module _ {X : Type 0} (eq : X → X → Bool) (same : (x : X) → eq x x ≡ true) (sound : (x y : X) → eq x y ≡ true → x ≡ y) where
   abbrev one : X → X → ℕ
@@ -31,6 +119,13 @@ module _ {X : Type 0} (eq : X → X → Bool) (same : (x : X) → eq x x ≡ tru
 
   pub moved : (xs ys : List X) (x : X) → AreSame xs ys → Contains xs x → Contains ys x
   moved xs ys x both c = found x ys (omega (arith, both (one x), counts x xs c.0 c.1 c.2))
+
+  -- what holds of all values of one list holds of all of the other
+  pub all_moved : (P : X → Type 0) (xs ys : List X) → AreSame xs ys → All P xs → All P ys
+  all_moved P xs ys both all i d less =
+      let x : X = get_or ys i d in
+      let c = moved ys xs x (same_sym xs ys both) (i, less, get_or_default ys i x d less) in
+      subst P c.2 (all c.0 x c.1)
 
 both_true : (a b : Bool) → (a && b) ≡ true → (a ≡ true) × (b ≡ true)
 both_true true b e = (refl, e)
@@ -91,3 +186,11 @@ task_sound t u e = let b = both_true (t.bound == u.bound) (same_path t.path u.pa
 -- what stands in one list of tasks stands in each list of the same tasks
 pub kept : (xs ys : List Task) (t : Task) → AreSame xs ys → Contains xs t → Contains ys t
 kept xs ys t both c = moved same_task task_itself task_sound xs ys t both c
+
+-- the same for paths
+pub kept_path : (ps qs : List (List Step)) (p : List Step) → AreSame ps qs → Contains ps p → Contains qs p
+kept_path ps qs p both c = moved same_path path_itself path_sound ps qs p both c
+
+-- what holds of each task of one list holds of each task of the other
+pub kept_all : (P : Task → Type 0) (xs ys : List Task) → AreSame xs ys → All P xs → All P ys
+kept_all P xs ys both all = all_moved same_task task_itself task_sound P xs ys both all

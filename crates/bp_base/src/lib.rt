@@ -1,6 +1,7 @@
 //! The common types of the packing optimiser, the traits of the outside, and their forms in memory.
 #![tactic(auto)]
 
+mod calls;
 mod chain;
 mod limits;
 mod memory;
