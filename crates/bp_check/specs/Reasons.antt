@@ -5,7 +5,7 @@ use Rattle.bp_base.specs.declared.point.Sheet.{Sheet}
 use Rattle.bp_base.specs.declared.path.Pair.{Pair}
 use Rattle.bp_base.specs.declared.path.Step.{Step}
 use Rattle.bp_base.specs.declared.refutation.Refutation.{Refutation}
-use Rattle.bp_base.specs.Tree.{TreeValue, IsLeaf}
+use Rattle.bp_base.specs.Tree.{TreeValue, IsLeaf, leaf_count}
 use Rattle.bp_base.specs.Point.{point_at, gap}
 use Rattle.bp_metric.specs.Distance.{leaf_dist}
 use Rattle.bp_metric.specs.Valid.{IsPair, Lies}
@@ -45,8 +45,8 @@ IsBadSplit T G path (OpenBy claim) = ⊥
 -- a chain is bad where the claim doesn't hold for its path
 abbrev pub IsBadChain : TreeValue → Sheet → List Step → Part → Type 0
 IsBadChain T G path (SplitOf p children) = ⊥
-IsBadChain T G path (ClosedBy claim) = ClaimHolds T path claim → ⊥
-IsBadChain T G path (OpenBy claim) = ClaimHolds T path claim → ⊥
+IsBadChain T G path (ClosedBy claim) = ClaimHolds (leaf_count T) path claim → ⊥
+IsBadChain T G path (OpenBy claim) = ClaimHolds (leaf_count T) path claim → ⊥
 
 -- node k of the proof, in preorder from 0 on, has the property
 abbrev pub HasAt : (List Step → Part → Type 0) → List Node → ℕ → Type 0

@@ -11,7 +11,7 @@ use Rattle.bp_base.specs.declared.refutation.Refutation.{Refutation, fold-Refuta
 use Rattle.bp_base.specs.declared.refutation.Refutation.TheOpen.{Refutation-F}
 use Rattle.bp_base.specs.declared.refutation.Refutation.TheVariants.{Split, Closed, Open, rolls-Split, rolls-Closed, rolls-Open}
 use Rattle.bp_base.specs.declared.refutation.Refutation.TheFolds.{map-Refutation}
-use Rattle.bp_base.specs.Tree.{TreeValue}
+use Rattle.bp_base.specs.Tree.{TreeValue, leaf_count}
 use Rattle.bp_metric.specs.Choices.{allowed}
 use Rattle.bp_metric.specs.Chains.{ClaimHolds}
 use Rattle.bp_metric.specs.Refutation.{extended, CanSplit, EachFits, fits_at, Fits}
@@ -54,13 +54,13 @@ module _ (T : TreeValue) (G : Sheet) where
       let e = rec-roll-Refutation (List Step → Type 0) (fits_at T G) natural (Refutation-F.Split p rs) in
       ap (λ r. Fits T G r path) (sym (rolls-Split p rs)) ∙ (λ i. e i path)
 
-  pub fits-closed : (claim : Claim) (path : List Step) → Fits T G (Closed claim) path ≡ ClaimHolds T path claim
+  pub fits-closed : (claim : Claim) (path : List Step) → Fits T G (Closed claim) path ≡ ClaimHolds (leaf_count T) path claim
   unfolding Fits
   fits-closed claim path =
       let e = rec-roll-Refutation (List Step → Type 0) (fits_at T G) natural (Refutation-F.Closed claim) in
       ap (λ r. Fits T G r path) (sym (rolls-Closed claim)) ∙ (λ i. e i path)
 
-  pub fits-open : (claim : Claim) (path : List Step) → Fits T G (Open claim) path ≡ ClaimHolds T path claim
+  pub fits-open : (claim : Claim) (path : List Step) → Fits T G (Open claim) path ≡ ClaimHolds (leaf_count T) path claim
   unfolding Fits
   fits-open claim path =
       let e = rec-roll-Refutation (List Step → Type 0) (fits_at T G) natural (Refutation-F.Open claim) in

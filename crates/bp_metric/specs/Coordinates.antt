@@ -8,35 +8,35 @@ use Rattle.bp_base.specs.declared.path.Step.{Step}
 use Rattle.bp_base.specs.declared.chain.Claim.{Claim}
 use Rattle.bp_base.specs.declared.chain.Claim.TheVariants.{Walk, Cycle}
 use Rattle.bp_base.specs.Limits.{most_number}
-use Rattle.bp_base.specs.Tree.{TreeValue}
+use Rattle.bp_base.specs.Tree.{TreeValue, leaf_count}
 use Rattle.bp_metric.specs.Distance.{leaf_dist}
-use Rattle.bp_metric.specs.Chains.{Places, IsChain, chain_weight, first_of, last_of}
+use Rattle.bp_metric.specs.Chains.{Places, IsChain, IsCycle, HasCycle, chain_weight, first_of, last_of}
 
 -- v is the greatest weight of a chain that ends at leaf i
 pub record IsLow (T : TreeValue) (path : List Step) (axis : Axis) (i v : ℕ) : Type 0 where
   pub chain : List ℕ
-  pub is_chain : IsChain T path axis chain
+  pub is_chain : IsChain (leaf_count T) path axis chain
   pub ends : last_of chain ≡ i
   pub weighs : chain_weight T chain ≡ v
-  pub most : (other : List ℕ) → IsChain T path axis other → last_of other ≡ i → chain_weight T other ≤ v
+  pub most : (other : List ℕ) → IsChain (leaf_count T) path axis other → last_of other ≡ i → chain_weight T other ≤ v
 
 -- v is the greatest weight of a chain on the axis
 pub record IsGreatestOn (T : TreeValue) (path : List Step) (axis : Axis) (v : ℕ) : Type 0 where
   pub chain : List ℕ
-  pub is_chain : IsChain T path axis chain
+  pub is_chain : IsChain (leaf_count T) path axis chain
   pub weighs : chain_weight T chain ≡ v
-  pub most : (other : List ℕ) → IsChain T path axis other → chain_weight T other ≤ v
+  pub most : (other : List ℕ) → IsChain (leaf_count T) path axis other → chain_weight T other ≤ v
 
 -- v is the greatest weight of a chain on either axis
 pub record IsGreatest (T : TreeValue) (path : List Step) (v : ℕ) : Type 0 where
   pub axis : Axis
   pub on_axis : IsGreatestOn T path axis v
-  pub most : (other : Axis) (chain : List ℕ) → IsChain T path other chain → chain_weight T chain ≤ v
+  pub most : (other : Axis) (chain : List ℕ) → IsChain (leaf_count T) path other chain → chain_weight T chain ≤ v
 
 -- some chain on x weighs more than the strip's width
 pub record IsTooWide (T : TreeValue) (path : List Step) (width : ℕ) : Type 0 where
   pub chain : List ℕ
-  pub is_chain : IsChain T path X chain
+  pub is_chain : IsChain (leaf_count T) path X chain
   pub heavy : width < chain_weight T chain
 
 -- the side that the path forces; on a strip that its chains on x don't fit, no height will do
@@ -69,14 +69,16 @@ pub record IsShownBefore (T : TreeValue) (path : List Step) (axis : Axis) (a b :
   pub makes_up : low_a + leaf_dist T a b ≡ low_b
   pub least : (c low : ℕ) → c < a → Places path axis c b → IsLow T path axis c low → low + leaf_dist T c b ≡ low_b → ⊥
 
--- so does each leaf of the list with the next one
+-- each leaf of the list is the one shown before the next
 abbrev pub AreShown : TreeValue → List Step → Axis → List ℕ → Type 0
 AreShown T path axis [] = Unit {0}
 AreShown T path axis (a ∷ []) = Unit {0}
 AreShown T path axis (a ∷ b ∷ more) = IsShownBefore T path axis a b × AreShown T path axis (b ∷ more)
 
+-- the walk that is shown for a path without a cycle
 pub record IsShownWalk (T : TreeValue) (G : Sheet) (path : List Step) (axis : Axis) (leaves : List ℕ) : Type 0 where
-  pub is_chain : IsChain T path axis leaves
+  pub no_cycle : HasCycle (leaf_count T) path → ⊥
+  pub is_chain : IsChain (leaf_count T) path axis leaves
   pub on_axis : IsShownOn T G path axis
   pub last : IsShownLast T path axis (last_of leaves)
   pub before : AreShown T path axis leaves
@@ -86,3 +88,8 @@ pub record IsShownWalk (T : TreeValue) (G : Sheet) (path : List Step) (axis : Ax
 abbrev pub IsShown : TreeValue → Sheet → List Step → Claim → Type 0
 IsShown T G path (Walk axis chain) = IsShownWalk T G path axis chain
 IsShown T G path (Cycle axis chain) = ⊥
+
+-- what is shown for any path: that walk or, where the path has a cycle, a cycle of it
+abbrev pub IsShownOrCycle : TreeValue → Sheet → List Step → Claim → Type 0
+IsShownOrCycle T G path (Walk axis chain) = IsShownWalk T G path axis chain
+IsShownOrCycle T G path (Cycle axis chain) = IsCycle (leaf_count T) path axis chain

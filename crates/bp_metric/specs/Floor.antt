@@ -13,7 +13,7 @@ abbrev pub room_of : Sheet → ℕ → ℕ → ℕ
 room_of Square m r = r * r
 room_of (Strip width) m r = r * (width / m + 1)
 
--- the least number of rows that hold K points
+-- the least number of rows that hold K points; K rows do, so one is found
 unfoldable pub rows_for : Sheet → ℕ → ℕ → ℕ
 rows_for G m K = unwrap_or (find (λ r. nat_le K (room_of G m r)) (range_with_len 0 (K + 1))) 0
 

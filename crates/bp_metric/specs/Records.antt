@@ -15,7 +15,7 @@ use Rattle.bp_metric.specs.Coordinates.{IsForced, IsShown}
 use Rattle.bp_metric.specs.Next.{IsNext}
 use Rattle.bp_metric.specs.Opening.{IsOpeningSide}
 use Rattle.bp_metric.specs.Refutation.{extended}
-use Rattle.bp_metric.specs.Stated.{IsInner, IsStated}
+use Rattle.bp_metric.specs.Stated.{IsInner, IsStatedFor}
 
 -- the path extended by the pair and each allowed choice
 abbrev pub children : TreeValue → Sheet → List Step → Pair → List (List Step)
@@ -46,9 +46,9 @@ IsJudged T G u r (Closed claim) =
 
 -- the record is sound for side S
 pub record IsSound (T : TreeValue) (G : Sheet) (S : ℕ) (r : Record) : Type 0 where
-  pub stated : IsStated T G r.path
-  pub no_less : S ≤ r.bound
   pub opening_side : ℕ
   pub is_opening_side : IsOpeningSide T G opening_side
+  pub stated : IsStatedFor T G opening_side r.path
+  pub no_less : S ≤ r.bound
   pub no_more : r.bound ≤ opening_side
   pub judged : IsJudged T G opening_side r r.kind

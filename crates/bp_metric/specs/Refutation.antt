@@ -31,10 +31,11 @@ EachFits fits path p (c ∷ cs) (r ∷ rs) = fits r (extended path p c) × EachF
 EachFits fits path p [] (r ∷ rs) = ⊥
 EachFits fits path p (c ∷ cs) [] = ⊥
 
+-- one node: A stands for its children, and `fits` says which path each of them fits
 abbrev pub fits_at : TreeValue → Sheet → (A : Type 0) → (A → Refutation) → (A → List Step → Type 0) → Refutation-F A → List Step → Type 0
 fits_at T G A is fits (Refutation-F.Split p children) path = CanSplit T path p × EachFits fits path p (allowed T G p) children
-fits_at T G A is fits (Refutation-F.Closed claim) path = ClaimHolds T path claim
-fits_at T G A is fits (Refutation-F.Open claim) path = ClaimHolds T path claim
+fits_at T G A is fits (Refutation-F.Closed claim) path = ClaimHolds (leaf_count T) path claim
+fits_at T G A is fits (Refutation-F.Open claim) path = ClaimHolds (leaf_count T) path claim
 
 -- the refutation fits the path
 unfoldable pub Fits : TreeValue → Sheet → Refutation → List Step → Type 0

@@ -4,12 +4,13 @@ use Rattle.bp_base.specs.declared.point.Point.{Point}
 use Rattle.bp_base.specs.declared.point.Sheet.{Sheet}
 use Rattle.bp_base.specs.declared.point.Sheet.TheVariants.{Square, Strip}
 use Rattle.bp_base.specs.Tree.{TreeValue, leaf_count, IsLeaf}
+use Rattle.bp_base.specs.Path.{IsPairOf}
 use Rattle.bp_base.specs.Point.{point_at, gap}
 use Rattle.bp_metric.specs.Distance.{leaf_dist}
 
 -- i and j are two leaves in order
 abbrev pub IsPair : TreeValue → ℕ → ℕ → Type 0
-IsPair T i j = (1 ≤ i) × (i < j) × (j ≤ leaf_count T)
+IsPair T i j = IsPairOf (leaf_count T) (record { i = i; j = j })
 
 -- the point lies on the sheet of side s, on a grid q times finer; a strip keeps its width
 abbrev pub Lies : Sheet → ℕ → ℕ → Point → Type 0
