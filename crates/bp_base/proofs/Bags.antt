@@ -1,5 +1,5 @@
 -- Sums over lists, and lists with the same values: what stands in one stands in the other.
-use Rattle.std.proofs.Common.{◌≡◌, ◌≢◌, ℕ, zero, suc, ◌+◌, ◌<◌, ◌≤◌, Bool, true, false, true≢false, ◌&&◌, ◌==◌, cond, nat_eq, eqb, List, [], ◌∷◌, ◌++◌, map, length, set, get_or, All, sym, refl, ap, ◌∙◌, subst, arith, rules}
+use Rattle.std.proofs.Common.{◌≡◌, ℕ, zero, suc, ◌+◌, ◌<◌, ◌≤◌, Bool, true, false, true≢false, ◌&&◌, ◌==◌, cond, List, [], ◌∷◌, ◌++◌, map, length, set, get_or, All, sym, refl, ap, ◌∙◌, subst, arith}
 use Rattle.std.specs.List.{sum_by, flat_map, Contains}
 use Rattle.std.specs.List.Sorted.{IsPermutation}
 use Rattle.std.proofs.lemmas.List.Sums.{sum_by-cons, sum_by-append}

@@ -1,5 +1,5 @@
 -- Points and distances of the max-norm.
-use Rattle.std.specs.Prelude.{ℕ, ◌-◌, max, List, [], ◌∷◌, slice_index_or}
+use Rattle.std.specs.Prelude.{ℕ, ◌-◌, max, List, slice_index_or}
 use Rattle.std.specs.Int.{abs_diff}
 use Rattle.bp_base.specs.declared.point.Point.{Point}
 

@@ -1,4 +1,4 @@
-use Rattle.std.proofs.Common.{length, refl, arith, rules}
+use Rattle.std.proofs.Common.{refl, arith, rules}
 use Rattle.bp_base.specs.Name.{IsName}
 use Rattle.bp_base.proofs.Names.{padded}
 use Rattle.bp_base.proofs.name.Name.new.Goals as goal
