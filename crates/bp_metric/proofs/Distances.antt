@@ -1,16 +1,16 @@
 -- Laws of the tree metric.
-use Rattle.std.proofs.Common.{◌≡◌, ℕ, zero, suc, ◌+◌, ◌-◌, ◌*◌, ◌<◌, ◌≤◌, Bool, true, false, cond, not, ◌||◌, ◌==◌, eqb, List, length, slice_index, get_or, filter, All, sum_by, refl, sym, ◌∙◌, ap, subst, arith, inl, inr}
+use Rattle.std.proofs.Common.{◌≡◌, ℕ, zero, suc, ◌+◌, ◌-◌, ◌<◌, ◌≤◌, Bool, true, false, not, ◌||◌, ◌==◌, List, length, get_or, All, refl, sym, ◌∙◌, ap, subst, arith, inl, inr}
 use Rattle.std.specs.List.{range_with_len}
 use Rattle.std.proofs.lemmas.List.{get_or_past, get_or_default}
 use Rattle.std.proofs.lemmas.List.FromFn.{length-range_with_len, get_or-range_with_len}
 use Rattle.std.proofs.lemmas.List.Elements.{All-filter}
 use Rattle.std.proofs.lemmas.List.Kept.{AllPairs-from_increasing, IsStrictlyIncreasing-filter}
 use Rattle.std.specs.List.Sorted.{IsStrictlyIncreasing}
-use Rattle.std.proofs.lemmas.Bool.{cases_eq, cases_lt, cases_Bool, eq-eqb, ne_eqb, eqb-true, or_cases, false_from_ne_true, false≢true}
+use Rattle.std.proofs.lemmas.Bool.{cases_eq, cases_lt, cases_Bool, eq-eqb, ne_eqb, eqb-true, or_cases, false_from_ne_true}
 use Rattle.bp_base.specs.Tree.{TreeValue, IsTree, IsLeaf, edges, parent, length_of, node_count, leaf_count, leaf_node, leaf_nodes, has_child}
-use Rattle.bp_base.specs.Limits.{most_nodes, most_length}
+use Rattle.bp_base.specs.Limits.{most_length}
 use Rattle.bp_metric.specs.Distance.{below_within, is_below, differ, share, dist, leaf_dist, most_distance}
-use Rattle.bp_metric.proofs.Ranges.{sum_of_sums, sum_at_most, sum_none, only_at, sum_only_at}
+use Rattle.bp_metric.proofs.Ranges.{sum_of_sums, sums_at_most, sum_at_most, sum_none, only_at, sum_only_at}
 
 or_same : (b : Bool) → (b || b) ≡ b
 or_same true = refl
@@ -69,26 +69,31 @@ module _ (T : TreeValue) (t : IsTree T) where
   pub is_below-same : (a : ℕ) → 0 < a → is_below T a a ≡ true
   is_below-same a above = is_below-up a a above ∙ ap (λ (b : Bool). b || is_below T (parent T a) a) (eq-eqb a a refl)
 
-  -- the edge above the greater node separates it from the other
-  share_up : (a b e : ℕ) → b < a → share T a b e ≡ only_at a (length_of T a) e + share T (parent T a) b e
+  -- the edge above a separates it from a node that isn't below it
+  share_off : (a b e : ℕ) → 0 < a → is_below T b a ≡ false → share T a b e ≡ only_at a (length_of T a) e + share T (parent T a) b e
   unfolding share
-  share_up a b e less = elim (cases_eq e a) [
+  share_off a b e above off = elim (cases_eq e a) [
     | inl same ↦
-        let here : is_below T a e ≡ true = ap (λ (x : ℕ). is_below T a x) same ∙ is_below-same a (omega arith) in
-        let other : is_below T b e ≡ false = not_below b e (omega arith) in
+        let here : is_below T a e ≡ true = ap (λ (x : ℕ). is_below T a x) same ∙ is_below-same a above in
+        let other : is_below T b e ≡ false = ap (λ (x : ℕ). is_below T b x) same ∙ off in
         let up : is_below T (parent T a) e ≡ false = not_below (parent T a) e (omega (arith, parent_falls a)) in
         let long : length_of T e ≡ length_of T a = ap (length_of T) same in
         rw (eq-eqb e a same, here, other, up) (omega (arith, long))
     | inr apart ↦
-        let here : is_below T a e ≡ is_below T (parent T a) e = is_below-up a e (omega arith) ∙ ap (λ (b : Bool). b || is_below T (parent T a) e) (ne_eqb a e (λ is. apart (sym is))) in
+        let here : is_below T a e ≡ is_below T (parent T a) e = is_below-up a e above ∙ ap (λ (b : Bool). b || is_below T (parent T a) e) (ne_eqb a e (λ is. apart (sym is))) in
         rw (ne_eqb e a apart, here) (omega arith)
   ]
 
-  pub dist_up : (a b : ℕ) → b < a → a < node_count T → dist T a b ≡ length_of T a + dist T (parent T a) b
+  -- the way from a to a node that isn't below it begins with the edge above a
+  pub dist_off : (a b : ℕ) → 0 < a → a < node_count T → is_below T b a ≡ false → dist T a b ≡ length_of T a + dist T (parent T a) b
   unfolding dist
-  dist_up a b less within =
-      let parts = sum_of_sums (share T a b) (only_at a (length_of T a)) (share T (parent T a) b) (edges T) (λ e. share_up a b e less) in
+  dist_off a b above within off =
+      let parts = sum_of_sums (share T a b) (only_at a (length_of T a)) (share T (parent T a) b) (edges T) (λ e. share_off a b e above off) in
       omega (arith, parts, sum_only_at a (length_of T a) 1 (node_count T - 1) (omega arith) (omega arith))
+
+  -- so does the way from the greater of two nodes
+  pub dist_up : (a b : ℕ) → b < a → a < node_count T → dist T a b ≡ length_of T a + dist T (parent T a) b
+  dist_up a b less within = dist_off a b (omega arith) within (not_below b a less)
 
   share_comm : (a b e : ℕ) → share T a b e ≡ share T b a e
   unfolding share
@@ -110,6 +115,24 @@ module _ (T : TreeValue) (t : IsTree T) where
   pub dist_same : (a : ℕ) → dist T a a ≡ 0
   unfolding dist
   dist_same a = sum_none (share T a a) (edges T) (share_same a)
+
+  share_triangle : (a b c e : ℕ) → share T a c e ≤ share T a b e + share T b c e
+  unfolding share
+  share_triangle a b c e = elim (cases_Bool (is_below T a e)) [
+    | inl x ↦ elim (cases_Bool (is_below T b e)) [
+      | inl y ↦ elim (cases_Bool (is_below T c e)) [ inl z ↦ rw (x, y, z) (omega arith) | inr z ↦ rw (x, y, z) (omega arith) ]
+      | inr y ↦ elim (cases_Bool (is_below T c e)) [ inl z ↦ rw (x, y, z) (omega arith) | inr z ↦ rw (x, y, z) (omega arith) ]
+    ]
+    | inr x ↦ elim (cases_Bool (is_below T b e)) [
+      | inl y ↦ elim (cases_Bool (is_below T c e)) [ inl z ↦ rw (x, y, z) (omega arith) | inr z ↦ rw (x, y, z) (omega arith) ]
+      | inr y ↦ elim (cases_Bool (is_below T c e)) [ inl z ↦ rw (x, y, z) (omega arith) | inr z ↦ rw (x, y, z) (omega arith) ]
+    ]
+  ]
+
+  -- a way over a third node is no shorter
+  pub triangle : (a b c : ℕ) → dist T a c ≤ dist T a b + dist T b c
+  unfolding dist
+  triangle a b c = sums_at_most (share T a c) (share T a b) (share T b c) (edges T) (share_triangle a b c)
 
   share_small : (a b e : ℕ) → share T a b e ≤ most_length
   unfolding share

@@ -1,4 +1,7 @@
 pub mod Distances
+pub mod Leaves
 pub mod Ranges
-pub mod Refutations
+pub mod Regions
+mod Rows
 mod Tables
+pub mod Refutations

@@ -1,5 +1,5 @@
 -- Equations of what is defined over refutations.
-use Rattle.std.proofs.Common.{◌≡◌, ℕ, ◌+◌, List, [], ◌∷◌, ◌++◌, length, map, refl, sym, ap, ◌∙◌}
+use Rattle.std.proofs.Common.{◌≡◌, List, [], ◌∷◌, ◌++◌, length, map, refl, sym, ap, ◌∙◌}
 use Rattle.std.specs.List.{flat_map}
 use Rattle.std.proofs.lemmas.List.{length-map}
 use Rattle.bp_base.specs.declared.point.Sheet.{Sheet}
@@ -7,7 +7,7 @@ use Rattle.bp_base.specs.declared.path.Choice.{Choice}
 use Rattle.bp_base.specs.declared.path.Pair.{Pair}
 use Rattle.bp_base.specs.declared.path.Step.{Step}
 use Rattle.bp_base.specs.declared.chain.Claim.{Claim}
-use Rattle.bp_base.specs.declared.refutation.Refutation.{Refutation, fold-Refutation, fold-roll-Refutation, rec-Refutation, rec-roll-Refutation}
+use Rattle.bp_base.specs.declared.refutation.Refutation.{Refutation, fold-roll-Refutation, rec-roll-Refutation}
 use Rattle.bp_base.specs.declared.refutation.Refutation.TheOpen.{Refutation-F}
 use Rattle.bp_base.specs.declared.refutation.Refutation.TheVariants.{Split, Closed, Open, rolls-Split, rolls-Closed, rolls-Open}
 use Rattle.bp_base.specs.declared.refutation.Refutation.TheFolds.{map-Refutation}

@@ -1,9 +1,9 @@
 -- What stands where in the table of all distances.
-use Rattle.std.proofs.Common.{◌≡◌, ℕ, zero, suc, ◌+◌, ◌-◌, ◌*◌, ◌<◌, ◌≤◌, List, [], ◌∷◌, ◌++◌, length, get_or, take, map, refl, sym, ◌∙◌, ap, subst, arith, length-append}
-use Rattle.std.specs.List.{flat_map, All}
+use Rattle.std.proofs.Common.{◌≡◌, ℕ, ◌+◌, ◌-◌, ◌*◌, ◌<◌, ◌≤◌, List, [], ◌∷◌, length, get_or, take, sym, ◌∙◌, ap, subst, arith, length-append}
+use Rattle.std.specs.List.{flat_map}
 use Rattle.std.proofs.lemmas.List.{length-map, get_or-map, length-take-le, get_or_default}
 use Rattle.std.proofs.lemmas.List.Concat.{get_or-flat_map}
-use Rattle.bp_base.specs.Tree.{TreeValue, IsTree, IsLeaf, leaf_count, leaf_node, leaf_nodes, node_count}
+use Rattle.bp_base.specs.Tree.{TreeValue, IsTree, IsLeaf, leaf_count, leaf_node, leaf_nodes}
 use Rattle.bp_metric.specs.Distance.{dist, leaf_dist, most_distance}
 use Rattle.bp_metric.specs.Table.{row_of, rows_of, IsTable}
 use Rattle.bp_metric.proofs.Distances.{dist_small}

@@ -1,5 +1,5 @@
 -- What a metric is seen as: a tree, and the sheet that its tips are placed on.
-use Rattle.std.specs.Prelude.{ℕ, ◌≤◌}
+use Rattle.std.specs.Prelude.{◌≤◌}
 use Rattle.bp_base.specs.declared.point.Sheet.{Sheet}
 use Rattle.bp_base.specs.declared.point.Sheet.TheVariants.{Square, Strip}
 use Rattle.bp_base.specs.Limits.{most_width}

@@ -2,7 +2,9 @@
 #![tactic(auto)]
 
 mod distance;
+mod laws;
 mod metric;
 mod table;
 
+pub use laws::{leaves_apart, radii_apart, triangle, twins_alike};
 pub use metric::Metric;

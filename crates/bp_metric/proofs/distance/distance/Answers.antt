@@ -1,4 +1,4 @@
-use Rattle.std.proofs.Common.{◌≡◌, ◌+◌, ◌<◌, ap, subst, arith, get_or, ◌∙◌, sym}
+use Rattle.std.proofs.Common.{◌≡◌, ◌<◌, ap, arith, ◌∙◌, sym}
 use Rattle.bp_metric.specs.Distance.{dist}
 use Rattle.bp_metric.proofs.Distances.{climb_left, climb_right, parent_within, dist_small, dist_same, length_small}
 use Rattle.bp_metric.proofs.distance.distance.Goals as goal
