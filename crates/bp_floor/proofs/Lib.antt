@@ -1,0 +1,5 @@
+mod BoxRows
+mod RisingLeaves
+mod Walks
+mod Choice
+mod BoxCounts
