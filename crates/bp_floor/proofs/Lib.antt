@@ -3,3 +3,4 @@ mod RisingLeaves
 mod Walks
 mod Choice
 mod BoxCounts
+mod Worked
