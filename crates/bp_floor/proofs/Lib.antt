@@ -1,0 +1,6 @@
+mod BoxRows
+mod RisingLeaves
+mod Walks
+mod Choice
+mod BoxCounts
+mod Worked
