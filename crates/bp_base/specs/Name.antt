@@ -1,5 +1,6 @@
 -- Names of nodes: 1 to 32 bytes, each a letter, a digit, `_` or `-`.
 use Rattle.std.specs.Prelude.{◌≡◌, ◌==◌, nat_le, ℕ, ◌≤◌, List, length, Bool, ◌&&◌, ◌||◌, IsTrue, Option, None, Some, All}
+use Rattle.bp_base.specs.Limits.{most_name}
 
 abbrev pub is_name_byte : ℕ → Bool
 is_name_byte b =
@@ -7,7 +8,7 @@ is_name_byte b =
 
 pub record IsName (bytes : List ℕ) : Type 0 where
   pub some : 1 ≤ length bytes
-  pub short : length bytes ≤ 32
+  pub short : length bytes ≤ most_name
   pub spelled : All (λ b. IsTrue (is_name_byte b)) bytes
 
 -- A name is answered exactly where the bytes are one, and it is these bytes.

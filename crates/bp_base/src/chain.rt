@@ -1,7 +1,7 @@
 ghost use Rattle.std.specs.Prelude.{◌≡◌, ◌<◌, length, slice_get, Some};
 ghost use Rattle.bp_base.specs.Chain.{IsChainList, ChainsExactly};
 
-use crate::Axis;
+use crate::{Axis, MOST_LEAVES, MOST_NUMBER};
 use smallvec::SmallVec;
 use std::alloc::Global;
 use std::marker::Model;
@@ -28,12 +28,12 @@ impl Chain {
     pub fn new(alloc: Global, leaves: &[u64]) -> Option<Chain>
         ensures { ChainsExactly leaves.now result }
     {
-        if leaves.is_empty() || leaves.len() > 32 {
+        if leaves.is_empty() || leaves.len() as u64 > MOST_LEAVES {
             return None;
         }
         let mut kept = SmallVec::new(alloc);
         for leaf in leaves {
-            if *leaf > 999_999_999 {
+            if *leaf > MOST_NUMBER {
                 return None;
             }
             kept.push_reserved(*leaf as u32);

@@ -1,3 +1,6 @@
+/// The most bytes of a name.
+pub const MOST_NAME: u64 = 32;
+
 /// The most nodes of a tree.
 pub const MOST_NODES: u64 = 64;
 
@@ -15,6 +18,12 @@ pub const MOST_NUMBER: u64 = 999_999_999;
 
 /// The greatest width of a strip, in grid units.
 pub const MOST_WIDTH: u64 = 999_999;
+
+/// The most hands of a search.
+pub const MOST_HANDS: u64 = 16;
+
+/// The greatest budget of a search, in branches examined.
+pub const MOST_BUDGET: u64 = 200_000;
 
 /// The most bytes of a tree's text.
 pub const MOST_TREE_BYTES: u64 = 65_536;
