@@ -9,7 +9,7 @@ use Rattle.bp_base.specs.declared.point.Sheet.TheVariants.{Square, Strip}
 use Rattle.bp_base.specs.Limits.{most_leaves}
 use Rattle.bp_metric.specs.Distance.{most_distance}
 use Rattle.bp_metric.specs.Floor.{room_of, rows_for, box_side}
-use Rattle.bp_floor.specs.Best.{most_floor_side}
+use Rattle.bp_floor.specs.Small.{most_floor_side}
 
 find_range : (p : ℕ → Bool) (a n r : ℕ) → a ≤ r → r < a + n → ((k : ℕ) → a ≤ k → k < r → p k ≡ false) → p r ≡ true → find p (range_with_len a n) ≡ Some r
 find_range p a zero r from to before here = absurd (omega arith)

@@ -9,7 +9,8 @@ use Rattle.bp_metric.specs.Distance.{leaf_dist, most_distance}
 use Rattle.bp_metric.specs.Valid.{IsPair}
 use Rattle.bp_metric.specs.Floor.{FloorHolds, IsFloor, floor_at, box_side, rows_for, taken}
 use Rattle.bp_metric.proofs.Distances.{leaf_dist_positive, dist_small}
-use Rattle.bp_floor.specs.Best.{AreApart, IsBetter, IsFound, IsSmall}
+use Rattle.bp_floor.specs.Best.{AreApart, IsBetter, IsFound}
+use Rattle.bp_floor.specs.Small.{IsSmall}
 use Rattle.bp_floor.proofs.BoxRows.{box_side_small}
 use Rattle.bp_floor.proofs.Walks.{taken_apart}
 

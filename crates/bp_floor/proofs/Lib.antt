@@ -4,3 +4,4 @@ mod Walks
 mod Choice
 mod BoxCounts
 mod Worked
+mod Sampled

@@ -1,7 +1,5 @@
 -- Floors of worked trees, by computation.
-use Rattle.std.proofs.Common.{◌≡◌, ℕ, List, [], ◌∷◌, replicate, refl}
-use Rattle.bp_base.specs.declared.point.Floor.{Floor}
-use Rattle.bp_base.specs.declared.point.Sheet.{Sheet}
+use Rattle.std.proofs.Common.{◌≡◌, ℕ, List, [], ◌∷◌, refl}
 use Rattle.bp_base.specs.declared.point.Sheet.TheVariants.{Square, Strip}
 use Rattle.bp_base.specs.Tree.{TreeValue}
 use Rattle.bp_metric.specs.Distance.{is_below, share, dist}

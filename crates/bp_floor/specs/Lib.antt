@@ -1,2 +1,4 @@
+pub mod Small
 pub mod Best
 pub mod Lists
+pub mod Samples

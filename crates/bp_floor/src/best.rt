@@ -4,7 +4,8 @@ ghost use Rattle.bp_base.specs.Tree.{IsLeaf};
 ghost use Rattle.bp_metric.specs.Distance.{leaf_dist};
 ghost use Rattle.bp_metric.specs.Valid.{IsPair};
 ghost use Rattle.bp_metric.specs.Floor.{FloorHolds, IsFloor, floor_at};
-ghost use Rattle.bp_floor.specs.Best.{IsBetter, IsFound, IsSmall};
+ghost use Rattle.bp_floor.specs.Best.{IsBetter, IsFound};
+ghost use Rattle.bp_floor.specs.Small.{IsSmall};
 
 use crate::rows::rows;
 use crate::taken::taken_of;

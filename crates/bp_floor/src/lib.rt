@@ -2,12 +2,14 @@
 #![tactic(auto)]
 
 mod best;
+mod holds;
 mod law;
 mod lists;
 mod rows;
 mod taken;
-mod test;
+#[cfg(test)]
+mod tests;
 
 pub use best::floor;
+pub use holds::floor_holds;
 pub use law::{has_floor, law_of_floors, one_floor};
-pub use test::floor_holds;

@@ -1,6 +1,6 @@
 use Rattle.std.proofs.Common.{refl, arith}
 use Rattle.bp_floor.proofs.RisingLeaves.{rising_few}
-use Rattle.bp_floor.proofs.test.floor_holds.Goals as goal
+use Rattle.bp_floor.proofs.holds.floor_holds.Goals as goal
 
 pub is_side-requires-clause-count : goal.is_side-requires-clause-count
 is_side-requires-clause-count c =
