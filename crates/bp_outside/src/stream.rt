@@ -1,4 +1,5 @@
 ghost use Rattle.std.specs.Prelude.{◌≡◌, ◌≤◌, ◌<◌, None, IfOk, OnOk, OnErr, length, take};
+ghost use Rattle.std.specs.Io.KnownBytes.{ReadConsumes, WriteAppends};
 ghost use Rattle.bp_base.specs.Causes.{HasCause, Reads, EndsAt, Appends, count_after};
 
 use bp_base::{Failed, Sink, Source};
@@ -7,13 +8,14 @@ use std::io::{Read, Write};
 /// A reader, such as standard input. It tells no content. Each read is one call of the reader, and each of its errors a fault.
 #[derive(Drop)]
 pub struct Input<R: Read + Drop> {
-    reader: R,
+    pub reader: R,
     pub faults: u64,
 }
 
 impl<R: Read + Drop> Input<R> {
     pub fn new(reader: R) -> Self
-        ensures { result.faults ≡ 0 }
+        ensures reader { result.reader ≡ reader }
+        ensures faults { result.faults ≡ 0 }
     {
         Input { reader, faults: 0 }
     }
@@ -32,6 +34,8 @@ impl<R: Read + Drop> Source for Input<R> {
         ensures cause { HasCause self.old.faults self.new.faults result }
         ensures quiet { OnOk result (self.new.faults ≡ self.old.faults) }
         ensures counted { OnErr result (self.new.faults ≡ count_after self.old.faults) }
+        // Where the reader says which bytes it has left, it gives these.
+        ensures passes { ReadConsumes (R.remaining self.old.reader) (R.remaining self.new.reader) result buffer.new }
     {
         match self.reader.read(buffer) {
             Ok(count) => Ok(count as u64),
@@ -47,13 +51,14 @@ impl<R: Read + Drop> Source for Input<R> {
 /// and a write that takes no byte, is a fault. Nothing is held back, so no fault comes later than its write.
 #[derive(Drop)]
 pub struct Output<W: Write + Drop> {
-    writer: W,
+    pub writer: W,
     pub faults: u64,
 }
 
 impl<W: Write + Drop> Output<W> {
     pub fn new(writer: W) -> Self
-        ensures { result.faults ≡ 0 }
+        ensures writer { result.writer ≡ writer }
+        ensures faults { result.faults ≡ 0 }
     {
         Output { writer, faults: 0 }
     }
@@ -72,6 +77,8 @@ impl<W: Write + Drop> Sink for Output<W> {
         ensures cause { HasCause self.old.faults self.new.faults result }
         ensures quiet { OnOk result (self.new.faults ≡ self.old.faults) }
         ensures counted { OnErr result (self.new.faults ≡ count_after self.old.faults) }
+        // Where the writer says which bytes it holds, it gets these.
+        ensures passes { WriteAppends (W.contents self.old.writer) (W.contents self.new.writer) result piece.now }
     {
         match self.writer.write(piece) {
             Ok(count) if count > 0 => Ok(count as u64),
