@@ -1,0 +1,5 @@
+pub mod Words
+pub mod Nodes
+mod Leaves
+mod Parts
+mod Counts

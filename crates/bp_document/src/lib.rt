@@ -2,5 +2,10 @@
 #![tactic(auto)]
 
 mod document;
+mod line;
+mod node;
+mod points;
+mod write;
 
 pub use document::Document;
+pub use write::write_document;
