@@ -1,16 +1,17 @@
 // The first free point, among the points whose coordinates are 0 or an earlier coordinate and a distance.
 ghost use Rattle.std.specs.Prelude.{◌≡◌, ◌+◌, ◌*◌, ◌<◌, ◌≤◌, length};
+ghost use Rattle.bp_base.specs.Limits.{most_leaves};
 ghost use Rattle.bp_base.specs.Tree.{leaf_count};
 ghost use Rattle.bp_metric.specs.Distance.{most_distance};
 ghost use Rattle.bp_metric.specs.Opening.{IsFirst, reach_on};
 ghost use Rattle.bp_opening.specs.Sums.{AreNear, AtMost, CanStand, IsLeastInColumn, Takes, beside, next_leaf, start_on};
 
 use crate::order::{can_stand, precedes};
-use bp_base::{Point, Sheet};
+use bp_base::{MOST_LENGTH, MOST_NODES, Point, Sheet};
 use bp_metric::Metric;
 
-// No two leaves are further apart.
-const MOST_DISTANCE: u64 = 63_000;
+// No two leaves are further apart: a tree has an edge fewer than nodes.
+const MOST_DISTANCE: u64 = (MOST_NODES - 1) * MOST_LENGTH;
 
 // The point at which the next leaf stands.
 pub fn first_free(metric: &Metric, points: &[Point]) -> Point
@@ -27,9 +28,9 @@ pub fn first_free(metric: &Metric, points: &[Point]) -> Point
     best
 }
 
-// So far out along the way that the order goes last that all points are near.
+// A point that is free: so far to the right of all points, on a strip so far above them.
 fn start_on(sheet: Sheet, count: u64) -> Point
-    requires { count ≤ 32 }
+    requires { count ≤ most_leaves }
     ensures { result ≡ start_on sheet count }
 {
     match sheet {
