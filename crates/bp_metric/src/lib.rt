@@ -8,3 +8,6 @@ mod table;
 
 pub use laws::{leaves_apart, radii_apart, triangle, twins_alike};
 pub use metric::Metric;
+
+#[cfg(test)]
+mod tests;
