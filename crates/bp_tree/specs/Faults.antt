@@ -1,5 +1,5 @@
 -- The first fault of bytes that are no tree.
-use Rattle.std.specs.Prelude.{◌≡◌, ◌≢◌, ◌⊎◌, ℕ, ◌+◌, ◌-◌, ◌<◌, ◌≤◌, List, [], ◌∷◌, ◌++◌, length, map, take, not, IsTrue, slice_index_or, Any, Contains, Result, Ok, Err}
+use Rattle.std.specs.Prelude.{◌≡◌, ◌≢◌, ◌⊎◌, ℕ, ◌+◌, ◌-◌, ◌<◌, ◌≤◌, List, [], ◌∷◌, ◌++◌, length, map, take, IsTrue, slice_index_or, All, Contains, Result, Ok, Err}
 use Rattle.bp_base.specs.Limits.{most_nodes, most_leaves, most_tree_bytes}
 use Rattle.bp_base.specs.Name.{IsName}
 use Rattle.bp_base.specs.Tree.{TreeValue, leaf_count}
@@ -28,7 +28,7 @@ IsFull names = most_nodes ≤ length names
 
 -- A line has this fault, where these are the names so far.
 abbrev pub HasKind : List (List ℕ) → List ℕ → TreeKind → Type 0
-HasKind names line BadByte = Any (λ b. IsTrue (not (is_text_byte b))) (content line)
+HasKind names line BadByte = All (λ b. IsTrue (is_text_byte b)) (content line) → ⊥
 HasKind names line WordCount = length (words_of line) ≢ 3
 HasKind names line BadName = IsName (word (words_of line) 0) × IsName (word (words_of line) 1) → ⊥
 HasKind names line BadLength = (n : ℕ) → IsNumber (word (words_of line) 2) n → IsLength n → ⊥

@@ -1,6 +1,6 @@
 -- Growing a tree edge by edge.
-use Rattle.std.specs.Prelude.{◌≡◌, ◌≢◌, ◌⊎◌, ℕ, ◌<◌, ◌≤◌, List, [], ◌∷◌, ◌++◌, length, map, All, IsTrue, Option, None, Some, Result, Ok, Err}
-use Rattle.bp_base.specs.Limits.{most_leaves}
+use Rattle.std.specs.Prelude.{◌≡◌, ◌≢◌, ◌⊎◌, ℕ, ◌<◌, ◌≤◌, List, [], ◌∷◌, ◌++◌, length, map, slice_index_or, Contains, All, IsTrue, Option, None, Some, Result, Ok, Err}
+use Rattle.bp_base.specs.Limits.{most_nodes, most_leaves}
 use Rattle.bp_base.specs.Name.{IsName}
 use Rattle.bp_base.specs.Tree.{TreeValue, IsTree, leaf_count, node_count}
 use Rattle.bp_tree.specs.declared.edge.Edge.{Edge}
@@ -18,6 +18,22 @@ no_nodes = record { parents = []; lengths = []; names = [] }
 abbrev pub with_node : TreeValue → ℕ → ℕ → List ℕ → TreeValue
 with_node T parent length name =
     record { parents = T.parents ++ parent ∷ []; lengths = T.lengths ++ length ∷ []; names = T.names ++ name ∷ [] }
+
+-- an edge may be added under place p of these names
+pub record IsPlaceFor (names : List (List ℕ)) (e : Edge) (p : ℕ) : Type 0 where
+  pub within : p < length names
+  pub upper : slice_index_or names p [] ≡ e.upper
+  pub new : Contains names e.lower → ⊥
+  pub room : length names < most_nodes
+  pub lower : IsName e.lower
+
+-- What looking for an edge's parent answers: its place, or the first fault that the edge has behind these names.
+abbrev pub FindsParent : List (List ℕ) → Edge → Result ℕ TreeKind → Type 0
+FindsParent names e (Ok p) = IsPlaceFor names e p
+FindsParent names e (Err UnknownParent) = Contains names e.upper → ⊥
+FindsParent names e (Err RepeatedName) = Contains names e.upper × Contains names e.lower
+FindsParent names e (Err TooManyNodes) = Contains names e.upper × (Contains names e.lower → ⊥) × IsFull names
+FindsParent names e (Err other) = ⊥
 
 -- What adding an edge answers: T' has it behind the edges of T, or the first fault that it has.
 abbrev pub AddsEdge : TreeValue → Edge → TreeValue → Result Unit TreeKind → Type 0

@@ -16,9 +16,12 @@ content line = before_first (λ b. b == 35) (strip_carriage_return line)
 abbrev pub is_blank : ℕ → Bool
 is_blank b = (b == 32) || (b == 9)
 
+abbrev pub is_some_word : List ℕ → Bool
+is_some_word w = nat_lt 0 (length w)
+
 -- the words of bytes, parted by blanks
 unfoldable pub words : List ℕ → List (List ℕ)
-words bytes = filter (λ w. nat_lt 0 (length w)) (slice_split is_blank bytes)
+words bytes = filter is_some_word (slice_split is_blank bytes)
 
 abbrev pub words_of : List ℕ → List (List ℕ)
 words_of line = words (content line)

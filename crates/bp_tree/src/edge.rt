@@ -1,3 +1,6 @@
+ghost use Rattle.std.specs.Prelude.{ℕ, MatchOption};
+ghost use Rattle.bp_text.specs.Numbers.{IsNumber};
+ghost use Rattle.bp_tree.specs.Edges.{IsLength};
 ghost use Rattle.bp_tree.specs.Growing.{ReadsEdge};
 
 use crate::TreeKind;
@@ -39,12 +42,22 @@ pub fn edge_of(line: &[u8]) -> Result<Option<Edge>, TreeKind>
     let Some(lower) = Name::new(lower) else {
         return Err(TreeKind::BadName);
     };
-    match number(length) {
-        Some(length) if length >= 1 && length <= MOST_LENGTH => Ok(Some(Edge {
-            upper,
-            lower,
-            length,
-        })),
-        _ => Err(TreeKind::BadLength),
+    let Some(length) = length_of(length) else {
+        return Err(TreeKind::BadLength);
+    };
+    Ok(Some(Edge {
+        upper,
+        lower,
+        length,
+    }))
+}
+
+// The number that the word is, from 1 to 1000.
+fn length_of(word: &[u8]) -> Option<u64>
+    ensures { MatchOption result ((n : ℕ) → IsNumber word.now n → IsLength n → ⊥) (λ n. IsNumber word.now n × IsLength n) }
+{
+    match number(word) {
+        Some(length) if length >= 1 && length <= MOST_LENGTH => Some(length),
+        _ => None,
     }
 }

@@ -1,6 +1,7 @@
-ghost use Rattle.std.specs.Prelude.{◌≡◌, ◌<◌, ◌≤◌, [], OnErr, IfOk, MatchOption, Contains, length, slice_index_or};
+ghost use Rattle.std.specs.Prelude.{◌≡◌, ◌<◌, ◌≤◌, ◌↔◌, [], IsTrue, OnErr, IfOk, MatchOption, Contains, length, slice_index_or};
+ghost use Rattle.bp_base.specs.Name.{IsName};
 ghost use Rattle.bp_tree.specs.Edges.{IsGrowing, IsLength};
-ghost use Rattle.bp_tree.specs.Growing.{AddsEdge, Finishes, no_nodes, with_node};
+ghost use Rattle.bp_tree.specs.Growing.{AddsEdge, FindsParent, Finishes, no_nodes, with_node};
 
 use crate::leaves::{leaf_count, root_children};
 use crate::{Edge, TreeKind};
@@ -32,7 +33,8 @@ impl Model for Grower {
 impl Grower {
     /// A tree without nodes.
     pub fn new(alloc: Global) -> Result<Grower, NoMemory>
-        ensures { IfOk result (λ g. g ≡ no_nodes) }
+        ensures none { IfOk result (λ g. g ≡ no_nodes) }
+        ensures growing { IfOk result (λ g. IsGrowing g) }
     {
         let parents = Vec::with_capacity(alloc, MOST_NODES as usize)?;
         let lengths = Vec::with_capacity(alloc, MOST_NODES as usize)?;
@@ -55,15 +57,7 @@ impl Grower {
         if self.names.is_empty() {
             return self.begin(edge);
         }
-        let Some(parent) = place_of(&self.names, &edge.upper) else {
-            return Err(TreeKind::UnknownParent);
-        };
-        if place_of(&self.names, &edge.lower).is_some() {
-            return Err(TreeKind::RepeatedName);
-        }
-        if self.names.len() as u64 >= MOST_NODES {
-            return Err(TreeKind::TooManyNodes);
-        }
+        let parent = parent_of(&self.names, edge)?;
         self.push(parent, edge.length, edge.lower);
         Ok(())
     }
@@ -72,11 +66,12 @@ impl Grower {
     fn begin(&mut self, edge: &Edge) -> Result<(), TreeKind>
         requires length { IsLength edge.now.length }
         requires none { self.old.names ≡ [] }
+        requires growing { IsGrowing self.old }
         ensures growing { IsGrowing self.new }
         ensures kept { OnErr result (self.new ≡ self.old) }
         ensures edge { AddsEdge self.old edge.now self.new result }
     {
-        if edge.upper == edge.lower {
+        if is_same(&edge.upper, &edge.lower) {
             return Err(TreeKind::RepeatedName);
         }
         self.push(0, 0, edge.upper);
@@ -86,7 +81,8 @@ impl Grower {
 
     fn push(&mut self, parent: u64, length: u64, name: Name)
         requires { IsGrowing (with_node self.old parent length name) }
-        ensures { self.new ≡ with_node self.old parent length name }
+        ensures node { self.new ≡ with_node self.old parent length name }
+        ensures growing { IsGrowing self.new }
     {
         self.parents.push_reserved(parent);
         self.lengths.push_reserved(length);
@@ -115,14 +111,39 @@ impl Grower {
     }
 }
 
+// The place of the edge's upper name, where the edge may be added behind these names.
+fn parent_of(names: &[Name], edge: &Edge) -> Result<u64, TreeKind>
+    ensures { FindsParent names.now edge.now result }
+{
+    let Some(parent) = place_of(names, &edge.upper) else {
+        return Err(TreeKind::UnknownParent);
+    };
+    if place_of(names, &edge.lower).is_some() {
+        return Err(TreeKind::RepeatedName);
+    }
+    if names.len() as u64 >= MOST_NODES {
+        return Err(TreeKind::TooManyNodes);
+    }
+    Ok(parent)
+}
+
 // The first place of the name.
 fn place_of(names: &[Name], name: &Name) -> Option<u64>
-    ensures { MatchOption result (Contains names.now name.now → ⊥) (λ p. (p < length names.now) × (slice_index_or names.now p [] ≡ name.now)) }
+    ensures place { MatchOption result (Contains names.now name.now → ⊥) (λ p. (p < length names.now) × (slice_index_or names.now p [] ≡ name.now)) }
+    ensures name { IsName name.now }
 {
+    let wanted = name.bytes();
     for (at, other) in names.iter().enumerate() {
-        if *other == *name {
+        if other.bytes() == wanted {
             return Some(at as u64);
         }
     }
     None
+}
+
+fn is_same(one: &Name, other: &Name) -> bool
+    ensures same { IsTrue result ↔ (one.now ≡ other.now) }
+    ensures names { IsName one.now × IsName other.now }
+{
+    one.bytes() == other.bytes()
 }

@@ -39,7 +39,8 @@ fn of_the_whole(kind: TreeKind) -> ReadTree
 
 // Adds the edges of all lines.
 fn read_lines(grower: &mut Grower, bytes: &[u8]) -> Result<(), TreeFault>
-    requires { grower.old ≡ no_nodes }
+    requires none { grower.old ≡ no_nodes }
+    requires growing { IsGrowing grower.old }
     ensures growing { IsGrowing grower.new }
     ensures lines { ReadsLines (lines_of bytes.now) grower.new result }
 {
@@ -47,11 +48,7 @@ fn read_lines(grower: &mut Grower, bytes: &[u8]) -> Result<(), TreeFault>
     let mut number = 0;
     while let Some(here) = line(bytes, at) {
         number += 1;
-        let kind = match add_line(grower, &bytes[here.from as usize..here.to as usize]) {
-            Ok(()) => None,
-            Err(kind) => Some(kind),
-        };
-        if let Some(kind) = kind {
+        if let Err(kind) = add_line(grower, &bytes[here.from as usize..here.to as usize]) {
             return Err(TreeFault { line: number, kind });
         }
         at = here.next;
@@ -60,6 +57,7 @@ fn read_lines(grower: &mut Grower, bytes: &[u8]) -> Result<(), TreeFault>
 }
 
 fn add_line(grower: &mut Grower, line: &[u8]) -> Result<(), TreeKind>
+    requires { IsGrowing grower.old }
     ensures growing { IsGrowing grower.new }
     ensures line { AddsLine grower.old line.now grower.new result }
 {
