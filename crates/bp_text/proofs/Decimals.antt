@@ -9,7 +9,7 @@ use Rattle.std.proofs.lemmas.List.{take_all, length-take-le}
 use Rattle.std.proofs.lemmas.Str.{digit_value_digit}
 use Rattle.std.proofs.lemmas.Int.Digits.{digits_value-lt, digits_value_more, digits_more}
 use Rattle.std.proofs.lemmas.Str.Parse.{IsNumeralModel, numerals_by_value, tells_digits, digit_at}
-use Rattle.std.proofs.lemmas.Fmt.{decimal_is_IsNumeral, decimal_nonempty, length-decimal-le, first_decimal, decimal_digit, decimal-digits_value}
+use Rattle.std.proofs.lemmas.Fmt.{decimal_is_IsNumeral, decimal_nonempty, length-decimal-le, first_decimal, decimal_digit, decimal_injective, decimal-digits_value}
 use Rattle.bp_text.specs.Numbers.{IsDecimal}
 
 numerals : IsNumeralModel (AllDigits 10) (digits_value 10)
@@ -64,3 +64,8 @@ more bytes i value read d less range all is diff same =
 
 pub whole : (bytes : List ℕ) (i value : ℕ) → length bytes ≤ i → (value ≡ digits_value 10 (take i bytes)) × AllDigits 10 (take i bytes) → AllDigits 10 bytes × (value ≡ digits_value 10 bytes)
 whole bytes i value done so_far = (subst (AllDigits 10) (take_all i bytes done) so_far.1, so_far.0 ∙ ap (digits_value 10) (take_all i bytes done))
+
+-- bytes are the decimal of one number
+pub one_decimal : (most : ℕ) (bytes : List ℕ) (m n : ℕ) → most < 2 ^ 64 → IsDecimal most bytes m → IsDecimal most bytes n → m ≡ n
+one_decimal most bytes m n word first second =
+    decimal_injective m n (omega (arith, first.1)) (omega (arith, second.1)) (sym first.0 ∙ second.0)

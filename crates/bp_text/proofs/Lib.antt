@@ -1,3 +1,3 @@
-mod Decimals
+pub mod Decimals
 pub mod Bytes
 pub mod Puts

@@ -82,7 +82,7 @@ module _ {X : Type 0} (f : X → List ℕ) where
   pub loop_all : {T : Type 0} (a b : Option (List ℕ)) (t : T) (xs : List X) (i : ℕ) → length xs ≤ i → Appends a b (flat_map f (take i xs)) → Puts a b (Ok t) (flat_map f xs)
   loop_all a b t xs i done all = puts_done a b t (flat_map f (take i xs)) (flat_map f xs) all (sym (ap (flat_map f) (take_all i xs done)))
 
-range_push : (from k : ℕ) → range_with_len from (k + 1) ≡ range_with_len from k ++ (from + k) ∷ []
+pub range_push : (from k : ℕ) → range_with_len from (k + 1) ≡ range_with_len from k ++ (from + k) ∷ []
 range_push from zero = let e : from + 0 ≡ from = omega arith in rw e
 range_push from (suc k) =
     let e : from + 1 + k ≡ from + suc k = omega arith in
@@ -91,7 +91,7 @@ range_push from (suc k) =
     rw next (ap (λ (l : List ℕ). from ∷ l) ih)
 
 -- a range goes on from its front
-range_split : (from k n : ℕ) → range_with_len from (k + n) ≡ range_with_len from k ++ range_with_len (from + k) n
+pub range_split : (from k n : ℕ) → range_with_len from (k + n) ≡ range_with_len from k ++ range_with_len (from + k) n
 range_split from zero n =
     let e : 0 + n ≡ n = omega arith in
     let s : from + 0 ≡ from = omega arith in

@@ -1,0 +1,11 @@
+pub mod WordLists
+pub mod LineLists
+pub mod Growth
+pub mod TwoLeaves
+pub mod Rows
+pub mod TextBytes
+pub mod Adding
+pub mod Faultless
+pub mod OneTree
+pub mod SoFar
+pub mod Whole

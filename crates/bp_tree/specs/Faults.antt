@@ -1,0 +1,114 @@
+-- The first fault of bytes that are no tree.
+use Rattle.std.specs.Prelude.{◌≡◌, ◌≢◌, ◌⊎◌, ℕ, ◌+◌, ◌-◌, ◌<◌, ◌≤◌, List, [], ◌∷◌, ◌++◌, length, map, take, IsTrue, slice_index_or, All, Contains, Result, Ok, Err}
+use Rattle.bp_base.specs.Limits.{most_nodes, most_leaves, most_tree_bytes}
+use Rattle.bp_base.specs.Name.{IsName}
+use Rattle.bp_base.specs.Tree.{TreeValue, leaf_count}
+use Rattle.bp_text.specs.Numbers.{IsNumber}
+use Rattle.bp_tree.specs.declared.edge.Edge.{Edge}
+use Rattle.bp_tree.specs.declared.fault.TreeKind.{TreeKind}
+use Rattle.bp_tree.specs.declared.fault.TreeKind.TheVariants.{TooLong, BadJson, BadShape, BadByte, WordCount, BadName, BadLength, UnknownParent, RepeatedName, TooManyNodes, Empty, RootIsLeaf, TooManyLeaves}
+use Rattle.bp_tree.specs.declared.fault.TreeFault.{TreeFault}
+use Rattle.bp_tree.specs.declared.fault.ReadTree.{ReadTree}
+use Rattle.bp_tree.specs.declared.fault.ReadTree.TheVariants.{Fault, NoMemory}
+use Rattle.bp_tree.specs.Lines.{lines_of, content, words_of, rows, word, is_text_byte}
+use Rattle.bp_tree.specs.Edges.{HasEdges, IsGrowing, IsLength, root_children}
+use Rattle.bp_tree.specs.Text.{GivesEdges, TreeOf}
+
+-- the line isn't the first with words, and its upper name is none of the names so far
+abbrev pub LacksUpper : List (List ℕ) → List ℕ → Type 0
+LacksUpper names upper = (names ≢ []) × (Contains names upper → ⊥)
+
+-- its lower name is one of the names so far, or on the first line its upper name
+abbrev pub RepeatsLower : List (List ℕ) → List ℕ → List ℕ → Type 0
+RepeatsLower names upper lower = Contains names lower ⊎ ((names ≡ []) × (lower ≡ upper))
+
+-- one more name would be one too many
+abbrev pub IsFull : List (List ℕ) → Type 0
+IsFull names = most_nodes ≤ length names
+
+-- A line has this fault, where these are the names so far.
+abbrev pub HasKind : List (List ℕ) → List ℕ → TreeKind → Type 0
+HasKind names line BadByte = All (λ b. IsTrue (is_text_byte b)) (content line) → ⊥
+HasKind names line WordCount = length (words_of line) ≢ 3
+HasKind names line BadName = IsName (word (words_of line) 0) × IsName (word (words_of line) 1) → ⊥
+HasKind names line BadLength = (n : ℕ) → IsNumber (word (words_of line) 2) n → IsLength n → ⊥
+HasKind names line UnknownParent = LacksUpper names (word (words_of line) 0)
+HasKind names line RepeatedName = RepeatsLower names (word (words_of line) 0) (word (words_of line) 1)
+HasKind names line TooManyNodes = IsFull names
+HasKind names line other = ⊥
+
+-- the order of the kinds that a line can have
+abbrev pub order : TreeKind → ℕ
+order BadByte = 1
+order WordCount = 2
+order BadName = 3
+order BadLength = 4
+order UnknownParent = 5
+order RepeatedName = 6
+order TooManyNodes = 7
+order other = 0
+
+-- the first kind, in this order, that the line has
+pub record IsKind (names : List (List ℕ)) (line : List ℕ) (kind : TreeKind) : Type 0 where
+  pub has : HasKind names line kind
+  pub first : (other : TreeKind) → order other < order kind → HasKind names line other → ⊥
+
+-- the names that these rows make: the first upper name, and all lower names
+abbrev pub names_of : List (List (List ℕ)) → List (List ℕ)
+names_of rs = take 1 (map (λ row. word row 0) rs) ++ map (λ row. word row 1) rs
+
+-- the line of number n, counted from 1
+abbrev pub line_at : List (List ℕ) → ℕ → List ℕ
+line_at lines n = slice_index_or lines (n - 1) []
+
+-- the names that the lines before line n make
+abbrev pub names_before : List (List ℕ) → ℕ → List (List ℕ)
+names_before lines n = names_of (rows (take (n - 1) lines))
+
+-- line n is one with words
+pub record IsRow (lines : List (List ℕ)) (n : ℕ) : Type 0 where
+  pub from : 1 ≤ n
+  pub to : n ≤ length lines
+  pub worded : words_of (line_at lines n) ≢ []
+
+-- line n has this fault
+abbrev pub HasFault : List (List ℕ) → ℕ → TreeKind → Type 0
+HasFault lines n kind = IsRow lines n × HasKind (names_before lines n) (line_at lines n) kind
+
+-- The first line with a fault is line n, and this kind is the first that it has.
+pub record IsFirstFault (lines : List (List ℕ)) (n : ℕ) (kind : TreeKind) : Type 0 where
+  pub row : IsRow lines n
+  pub has : IsKind (names_before lines n) (line_at lines n) kind
+  pub before : (m : ℕ) (other : TreeKind) → m < n → HasFault lines m other → ⊥
+
+-- No line has a fault, and T is what the lines make, which needn't be a tree yet.
+pub record Makes (bytes : List ℕ) (T : TreeValue) : Type 0 where
+  pub short : length bytes ≤ most_tree_bytes
+  pub faultless : (n : ℕ) (kind : TreeKind) → HasFault (lines_of bytes) n kind → ⊥
+  pub growing : IsGrowing T
+  pub given : List Edge
+  pub gives : GivesEdges bytes given
+  pub has : HasEdges T given
+
+-- The first fault of the bytes is of this kind, in line n, or in line 0 where it is of the whole.
+abbrev pub FaultIn : List ℕ → ℕ → TreeKind → Type 0
+FaultIn bytes n TooLong = (n ≡ 0) × (most_tree_bytes < length bytes)
+FaultIn bytes n BadJson = ⊥
+FaultIn bytes n BadShape = ⊥
+FaultIn bytes n Empty = (n ≡ 0) × (length bytes ≤ most_tree_bytes) × (rows (lines_of bytes) ≡ [])
+FaultIn bytes n RootIsLeaf = (n ≡ 0) × (T : TreeValue) × Makes bytes T × (root_children T ≡ 1)
+FaultIn bytes n TooManyLeaves = (n ≡ 0) × (T : TreeValue) × Makes bytes T × (2 ≤ root_children T) × (most_leaves < leaf_count T)
+FaultIn bytes n kind = (length bytes ≤ most_tree_bytes) × IsFirstFault (lines_of bytes) n kind
+
+abbrev pub IsTreeFault : List ℕ → TreeFault → Type 0
+IsTreeFault bytes f = FaultIn bytes f.line f.kind
+
+-- the bytes are a text of no tree
+abbrev pub IsNoTree : List ℕ → Type 0
+IsNoTree bytes = (T : TreeValue) → TreeOf bytes T → ⊥
+
+-- What reading answers: the tree of the bytes, or their first fault, and then they are of no tree.
+abbrev pub ReadsTree : List ℕ → Result TreeValue ReadTree → Type 0
+ReadsTree bytes (Ok T) = TreeOf bytes T
+ReadsTree bytes (Err (Fault f)) = IsTreeFault bytes f × IsNoTree bytes
+ReadsTree bytes (Err NoMemory) = Unit

@@ -1,0 +1,5 @@
+pub mod Lines
+pub mod Edges
+pub mod Text
+pub mod Faults
+pub mod Growing

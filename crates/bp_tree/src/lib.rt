@@ -1,0 +1,17 @@
+//! The text of a tree: reading it with the exact first fault, and writing its canonical form.
+#![tactic(auto)]
+
+mod edge;
+mod fault;
+mod grower;
+mod leaves;
+mod reading;
+mod words;
+
+pub use edge::Edge;
+pub use fault::{ReadTree, TreeFault, TreeKind};
+pub use grower::Grower;
+pub use reading::read_tree;
+
+#[cfg(test)]
+mod tests;
