@@ -1,0 +1,5 @@
+mod SourceReads
+mod Designs
+mod Reported
+mod OptionLemmas
+mod WordLemmas

@@ -1,0 +1,136 @@
+-- What a run answers, and what it leaves.
+use Rattle.std.specs.Prelude.{◌≡◌, ℕ, ◌<◌, List, [], take, false}
+use Rattle.std.specs.declared.option.Option.{Option}
+use Rattle.std.specs.declared.option.Option.TheVariants.{None, Some}
+use Rattle.bp_base.specs.declared.point.Sheet.{Sheet}
+use Rattle.bp_base.specs.declared.point.Sheet.TheVariants.{Square, Strip}
+use Rattle.bp_base.specs.Causes.{Rose, Appends, AppendsFront}
+use Rattle.bp_base.specs.Tree.{TreeValue}
+use Rattle.bp_tree.specs.declared.fault.TreeFault.{TreeFault}
+use Rattle.bp_tree.specs.Text.{TreeOf}
+use Rattle.bp_tree.specs.Faults.{IsTreeFault}
+use Rattle.bp_metric.specs.Metric.{IsSheet}
+use Rattle.bp_metric.specs.Valid.{NoneBelow}
+use Rattle.bp_metric.specs.Opening.{IsOpeningSide}
+use Rattle.bp_metric.specs.Floor.{IsFloorSide}
+use Rattle.bp_document.specs.declared.document.Document.{Document}
+use Rattle.bp_document.specs.Ranges.{IsDocument}
+use Rattle.bp_document.specs.Text.{doc_text}
+use Rattle.bp_check.specs.Written.{IsWritten, IsWanted}
+use Rattle.bp_engine.specs.declared.status.Status.{Status}
+use Rattle.bp_engine.specs.declared.status.Status.TheVariants.{Done, TreeRefused, Usage, ReadFault, WriteFault, NoMemory, NotBuilt}
+use Rattle.bp_engine.specs.declared.words.Words.{Words}
+use Rattle.bp_engine.specs.declared.words.Words.TheVariants.{Design, Check, Contours, Made, Trial, Rewrite, Revise, Pieces}
+
+-- P holds of the bytes, where they are told
+abbrev pub Told : Option (List ℕ) → (List ℕ → Type 0) → Type 0
+Told None P = Unit {0}
+Told (Some bytes) P = P bytes
+
+-- a square, or with `--strip` the strip of that width
+abbrev pub sheet_of : Option ℕ → Sheet
+sheet_of None = Square
+sheet_of (Some width) = Strip width
+
+-- the sides U0 of the opening and L0 of the floor
+pub record AreSides (T : TreeValue) (G : Sheet) (opening floor : ℕ) : Type 0 where
+  pub is_opening : IsOpeningSide T G opening
+  pub is_floor : IsFloorSide T G floor
+
+-- the opening meets the floor, so nothing is searched
+abbrev pub NeedsNoSearch : TreeValue → Sheet → Type 0
+NeedsNoSearch T G = (side : ℕ) × AreSides T G side side
+
+-- the opening's side is greater than the floor's
+abbrev pub NeedsSearch : TreeValue → Sheet → Type 0
+NeedsSearch T G = (opening floor : ℕ) × AreSides T G opening floor × (floor < opening)
+
+-- D is written for T on this sheet with this budget, and no sheet is smaller
+pub record IsDesign (T : TreeValue) (G : Sheet) (B : ℕ) (D : Document) : Type 0 where
+  pub sheet : D.sheet ≡ G
+  pub ranges : IsDocument D
+  pub written : IsWritten T B false D
+  pub bound : D.bound ≡ D.side
+  pub none_below : NoneBelow T G D.side
+  pub wanted : IsWanted T G D.side
+  pub no_search : NeedsNoSearch T G
+
+-- what was written for a tree with this status: what the sink held before and after
+abbrev pub WritesDesign : TreeValue → Sheet → ℕ → Option (List ℕ) → Option (List ℕ) → Status → Type 0
+WritesDesign T G B held now Done = (D : Document) × IsDesign T G B D × Appends held now (doc_text D)
+WritesDesign T G B held now (TreeRefused fault) = ⊥
+WritesDesign T G B held now Usage = ⊥
+WritesDesign T G B held now ReadFault = ⊥
+WritesDesign T G B held now WriteFault = (D : Document) × IsDesign T G B D × AppendsFront held now (doc_text D)
+WritesDesign T G B held now NoMemory = now ≡ held
+WritesDesign T G B held now NotBuilt = NeedsSearch T G × (now ≡ held)
+
+-- the bytes are no tree, and this is their first fault
+pub record IsRefused (bytes : List ℕ) (fault : TreeFault) : Type 0 where
+  pub is_fault : IsTreeFault bytes fault
+  pub no_tree : (T : TreeValue) → TreeOf bytes T → ⊥
+
+-- what was written for the bytes of a tree
+abbrev pub DesignsBytes : List ℕ → Sheet → ℕ → Option (List ℕ) → Option (List ℕ) → Status → Type 0
+DesignsBytes bytes G B held now Done = (T : TreeValue) × TreeOf bytes T × WritesDesign T G B held now Done
+DesignsBytes bytes G B held now (TreeRefused fault) = IsRefused bytes fault × (now ≡ held)
+DesignsBytes bytes G B held now Usage = ⊥
+DesignsBytes bytes G B held now ReadFault = ⊥
+DesignsBytes bytes G B held now WriteFault = (T : TreeValue) × TreeOf bytes T × WritesDesign T G B held now WriteFault
+DesignsBytes bytes G B held now NoMemory = now ≡ held
+DesignsBytes bytes G B held now NotBuilt = (T : TreeValue) × TreeOf bytes T × WritesDesign T G B held now NotBuilt
+
+-- The source was read to its end, and its bytes are a text of T, where it tells them.
+abbrev pub ReadsTree : Option (List ℕ) → Option (List ℕ) → TreeValue → Type 0
+ReadsTree left after T = Told left (λ b. TreeOf b T × (after ≡ Some []))
+
+-- What `design` has read and written with this status: what was left of the source before and after, what the sink held before and after.
+-- A refused tree is judged by its bytes, read to the end or to byte 65,537.
+abbrev pub Designs : Sheet → ℕ → Option (List ℕ) → Option (List ℕ) → Option (List ℕ) → Option (List ℕ) → Status → Type 0
+Designs G B left after held now Done = (T : TreeValue) × ReadsTree left after T × WritesDesign T G B held now Done
+Designs G B left after held now (TreeRefused fault) = Told left (λ b. IsRefused (take 65537 b) fault) × (now ≡ held)
+Designs G B left after held now Usage = ⊥
+Designs G B left after held now ReadFault = now ≡ held
+Designs G B left after held now WriteFault = (T : TreeValue) × ReadsTree left after T × WritesDesign T G B held now WriteFault
+Designs G B left after held now NoMemory = now ≡ held
+Designs G B left after held now NotBuilt = (T : TreeValue) × ReadsTree left after T × WritesDesign T G B held now NotBuilt
+
+-- what isn't built yet of what the words ask for: every command but `design`, and of `design` drawings and the steady answer
+abbrev pub IsUnbuilt : Words → Type 0
+IsUnbuilt (Design workers budget replay None strip None) = ⊥
+IsUnbuilt (Design workers budget replay (Some place) strip steady) = Unit {0}
+IsUnbuilt (Design workers budget replay None strip (Some questions)) = Unit {0}
+IsUnbuilt (Check tree) = Unit {0}
+IsUnbuilt Contours = Unit {0}
+IsUnbuilt (Made leaves seed) = Unit {0}
+IsUnbuilt (Trial leaves seed) = Unit {0}
+IsUnbuilt Rewrite = Unit {0}
+IsUnbuilt (Revise tree budget) = Unit {0}
+IsUnbuilt Pieces = Unit {0}
+
+-- A text was told on a sink: all of it where the sink's count didn't rise, and some front of it in any case.
+pub record Tells (before after : Option (List ℕ)) (faults now : ℕ) (text : List ℕ) : Type 0 where
+  pub front : AppendsFront before after text
+  pub all : (Rose faults now → ⊥) → Appends before after text
+
+-- what `design` with these words has read and written
+abbrev pub Answers : Words → Option (List ℕ) → Option (List ℕ) → Option (List ℕ) → Option (List ℕ) → Status → Type 0
+Answers (Design workers budget replay fold strip steady) left after held now status = Designs (sheet_of strip) budget left after held now status
+Answers (Check tree) left after held now status = Unit {0}
+Answers Contours left after held now status = Unit {0}
+Answers (Made leaves seed) left after held now status = Unit {0}
+Answers (Trial leaves seed) left after held now status = Unit {0}
+Answers Rewrite left after held now status = Unit {0}
+Answers (Revise tree budget) left after held now status = Unit {0}
+Answers Pieces left after held now status = Unit {0}
+
+-- a strip's width is within its limit
+abbrev pub HasSheet : Words → Type 0
+HasSheet (Design workers budget replay fold strip steady) = IsSheet (sheet_of strip)
+HasSheet (Check tree) = Unit {0}
+HasSheet Contours = Unit {0}
+HasSheet (Made leaves seed) = Unit {0}
+HasSheet (Trial leaves seed) = Unit {0}
+HasSheet Rewrite = Unit {0}
+HasSheet (Revise tree budget) = Unit {0}
+HasSheet Pieces = Unit {0}

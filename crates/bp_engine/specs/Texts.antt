@@ -1,0 +1,30 @@
+-- What each status tells on the error output.
+use Rattle.std.specs.Prelude.{ℕ, List, [], ◌++◌, ◌∷◌, codes, decimal}
+use Rattle.bp_tree.specs.declared.fault.TreeKind.{TreeKind}
+use Rattle.bp_tree.specs.declared.fault.TreeKind.TheVariants.{TooLong, BadJson, BadShape, BadByte, WordCount, BadName, BadLength, UnknownParent, RepeatedName, TooManyNodes, Empty, RootIsLeaf, TooManyLeaves}
+use Rattle.bp_engine.specs.declared.status.Status.{Status}
+use Rattle.bp_engine.specs.declared.status.Status.TheVariants.{Done, TreeRefused, Usage, ReadFault, WriteFault, NoMemory, NotBuilt}
+
+abbrev pub kind_text : TreeKind → List ℕ
+kind_text TooLong = codes "TooLong"
+kind_text BadJson = codes "BadJson"
+kind_text BadShape = codes "BadShape"
+kind_text BadByte = codes "BadByte"
+kind_text WordCount = codes "WordCount"
+kind_text BadName = codes "BadName"
+kind_text BadLength = codes "BadLength"
+kind_text UnknownParent = codes "UnknownParent"
+kind_text RepeatedName = codes "RepeatedName"
+kind_text TooManyNodes = codes "TooManyNodes"
+kind_text Empty = codes "Empty"
+kind_text RootIsLeaf = codes "RootIsLeaf"
+kind_text TooManyLeaves = codes "TooManyLeaves"
+
+unfoldable pub text_of : Status → List ℕ
+text_of Done = []
+text_of (TreeRefused fault) = codes "tree: line " ++ decimal fault.line ++ codes ": " ++ kind_text fault.kind ++ 10 ∷ []
+text_of Usage = codes "usage: boxpleat design, check, contours, made or trial\n"
+text_of ReadFault = codes "read fault\n"
+text_of WriteFault = codes "write fault\n"
+text_of NoMemory = codes "no memory\n"
+text_of NotBuilt = codes "not built\n"

@@ -1,0 +1,15 @@
+//! The commands: what their words ask for, how a run ends, and the run itself.
+#![tactic(auto)]
+
+mod command;
+mod design;
+mod options;
+mod reading;
+mod status;
+mod tell;
+mod text;
+mod words;
+
+pub use command::run;
+pub use status::Status;
+pub use words::{Words, one_meaning, words_of};

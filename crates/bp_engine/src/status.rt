@@ -1,0 +1,35 @@
+use bp_tree::TreeFault;
+
+/// How a run ended.
+#[derive(Clone, Copy, Debug, PartialEq, Eq)]
+pub enum Status {
+    /// The text is written.
+    Done,
+    /// The bytes of the tree are no tree.
+    TreeRefused(TreeFault),
+    /// The words are not in the table of commands.
+    Usage,
+    /// A source that the command reads has failed.
+    ReadFault,
+    /// A sink that the command writes has failed; it then holds a front of its text.
+    WriteFault,
+    /// Memory ran out, before anything was written.
+    NoMemory,
+    /// The words ask for something that isn't built yet.
+    NotBuilt,
+}
+
+impl Status {
+    /// The number that the program ends with.
+    pub fn number(self) -> u8 {
+        match self {
+            Status::Done => 0,
+            Status::TreeRefused(_) => 1,
+            Status::Usage => 2,
+            Status::ReadFault => 4,
+            Status::WriteFault => 5,
+            Status::NoMemory => 6,
+            Status::NotBuilt => 8,
+        }
+    }
+}

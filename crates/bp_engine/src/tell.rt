@@ -1,0 +1,74 @@
+// What a status tells on the error output.
+ghost use Rattle.std.specs.Prelude.{◌≡◌, ◌++◌, ◌∷◌, [], codes, decimal};
+ghost use Rattle.bp_base.specs.Causes.{HasCause};
+ghost use Rattle.bp_text.specs.Puts.{Puts};
+ghost use Rattle.bp_engine.specs.Run.{Tells};
+ghost use Rattle.bp_engine.specs.Texts.{kind_text, text_of};
+
+use crate::Status;
+use bp_base::{Failed, Sink};
+use bp_text::{put, put_parts};
+use bp_tree::{TreeFault, TreeKind};
+use itoa::Buffer;
+
+// Tells the status. A failing error output changes no status.
+pub fn tell<E: Sink>(err: &mut E, status: Status)
+    ensures { Tells (E.held err.old) (E.held err.new) (E.faults err.old) (E.faults err.new) (text_of status) }
+{
+    let _ = put_status(err, status);
+}
+
+#[tactic(auto, unfolding(crate::specs::Texts::text_of))]
+fn put_status<E: Sink>(err: &mut E, status: Status) -> Result<(), Failed>
+    ensures text { Puts (E.held err.old) (E.held err.new) result (text_of status) }
+    ensures cause { HasCause (E.faults err.old) (E.faults err.new) result }
+{
+    match status {
+        Status::Done => put(err, b""),
+        Status::TreeRefused(fault) => put_fault(err, fault),
+        Status::Usage => put(
+            err,
+            b"usage: boxpleat design, check, contours, made or trial\n",
+        ),
+        Status::ReadFault => put(err, b"read fault\n"),
+        Status::WriteFault => put(err, b"write fault\n"),
+        Status::NoMemory => put(err, b"no memory\n"),
+        Status::NotBuilt => put(err, b"not built\n"),
+    }
+}
+
+fn put_fault<E: Sink>(err: &mut E, fault: TreeFault) -> Result<(), Failed>
+    ensures text { Puts (E.held err.old) (E.held err.new) result (codes "tree: line " ++ decimal fault.line ++ codes ": " ++ kind_text fault.kind ++ 10 ∷ []) }
+    ensures cause { HasCause (E.faults err.old) (E.faults err.new) result }
+{
+    put_fault_words(err, fault.line, kind_word(fault.kind))
+}
+
+fn put_fault_words<E: Sink>(err: &mut E, line: u64, kind: &[u8]) -> Result<(), Failed>
+    ensures text { Puts (E.held err.old) (E.held err.new) result (codes "tree: line " ++ decimal line ++ codes ": " ++ kind.now ++ 10 ∷ []) }
+    ensures cause { HasCause (E.faults err.old) (E.faults err.new) result }
+{
+    let mut buffer = Buffer::new();
+    let line = buffer.format(line).as_bytes();
+    put_parts(err, &[b"tree: line ", line, b": ", kind, b"\n"])
+}
+
+fn kind_word(kind: TreeKind) -> &'static [u8]
+    ensures { result.now ≡ kind_text kind }
+{
+    match kind {
+        TreeKind::TooLong => b"TooLong",
+        TreeKind::BadJson => b"BadJson",
+        TreeKind::BadShape => b"BadShape",
+        TreeKind::BadByte => b"BadByte",
+        TreeKind::WordCount => b"WordCount",
+        TreeKind::BadName => b"BadName",
+        TreeKind::BadLength => b"BadLength",
+        TreeKind::UnknownParent => b"UnknownParent",
+        TreeKind::RepeatedName => b"RepeatedName",
+        TreeKind::TooManyNodes => b"TooManyNodes",
+        TreeKind::Empty => b"Empty",
+        TreeKind::RootIsLeaf => b"RootIsLeaf",
+        TreeKind::TooManyLeaves => b"TooManyLeaves",
+    }
+}
