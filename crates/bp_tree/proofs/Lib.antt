@@ -9,3 +9,4 @@ pub mod Faultless
 pub mod OneTree
 pub mod SoFar
 pub mod Whole
+pub mod ReadBack

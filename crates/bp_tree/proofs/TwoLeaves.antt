@@ -164,3 +164,11 @@ tree_is U t ps qs p_is q_is n m counted leaves more few =
     let here : n ≡ root_children U = counted ∙ ap (λ (rs : List ℕ). count_by (λ p. p == 0) (drop 1 rs)) p_is in
     let there : m ≡ leaf_count U = leaves ∙ ap leaves_of q_is in
     tree_grown U t (omega (arith, here, more)) (omega (arith, there, few))
+
+pub some_nodes : (T : TreeValue) → IsTree T → 2 ≤ length T.parents
+some_nodes T t = many T.parents t.root_children
+  where
+    many : (ps : List ℕ) → 2 ≤ often (drop 1 ps) 0 → 2 ≤ length ps
+    many [] two = absurd (omega (arith, two))
+    many (p ∷ []) two = absurd (omega (arith, two))
+    many (p ∷ q ∷ ps) two = omega arith

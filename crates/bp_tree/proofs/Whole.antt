@@ -101,3 +101,12 @@ module _ (bytes : List ℕ) (T : TreeValue) (text : TreeOf bytes T) where
 
 pub no_tree : (bytes : List ℕ) (f : TreeFault) → IsTreeFault bytes f → IsNoTree bytes
 no_tree bytes f fault T text = no_fault_in bytes T text f.line f.kind fault
+
+-- bytes are a text of one tree
+pub one_tree : (bytes : List ℕ) (T U : TreeValue) → TreeOf bytes T → TreeOf bytes U → U ≡ T
+one_tree bytes T U first second =
+    made_is bytes T first U (makes bytes U (growing_tree U second.tree) (second.given, second.gives, second.has) second.short)
+
+pub tree_found : (bytes : List ℕ) (T U : TreeValue) → length bytes ≤ most_tree_bytes → GrewFrom (lines_of bytes) T → Finishes T (Ok U) → TreeOf bytes U
+tree_found bytes T U short (es, given, has) (is, tree) =
+    subst (TreeOf bytes) (sym is) (record { short = short; tree = tree; given = es; gives = given; has = has })
