@@ -10,3 +10,4 @@ pub mod OneTree
 pub mod SoFar
 pub mod Whole
 pub mod ReadBack
+pub mod OneFault

@@ -1,10 +1,8 @@
-ghost use Rattle.std.specs.Prelude.{◌≡◌, IfOk};
-ghost use Rattle.bp_base.specs.Tree.{TreeValue};
+ghost use Rattle.std.specs.Prelude.{◌≡◌};
 ghost use Rattle.bp_tree.specs.Edges.{IsGrowing};
-ghost use Rattle.bp_tree.specs.Faults.{ReadsTree};
+ghost use Rattle.bp_tree.specs.Faults.{IsOnlyAnswer, ReadsTree};
 ghost use Rattle.bp_tree.specs.Growing.{AddsLine, ReadsLines, no_nodes};
 ghost use Rattle.bp_tree.specs.Lines.{lines_of};
-ghost use Rattle.bp_tree.specs.Text.{TreeOf};
 
 use crate::edge::edge_of;
 use crate::{Grower, ReadTree, TreeFault, TreeKind};
@@ -15,7 +13,7 @@ use std::alloc::Global;
 /// The tree of a text. A fault is the first one, and comes exactly where the bytes are a text of no tree.
 pub fn read_tree(alloc: Global, bytes: &[u8]) -> Result<Tree, ReadTree>
     ensures reads { ReadsTree bytes.now result }
-    ensures only { IfOk result (λ T. (U : TreeValue) → TreeOf bytes.now U → U ≡ T) }
+    ensures only { IsOnlyAnswer bytes.now result }
 {
     if bytes.len() as u64 > MOST_TREE_BYTES {
         return Err(of_the_whole(TreeKind::TooLong));
