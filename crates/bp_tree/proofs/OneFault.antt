@@ -1,7 +1,7 @@
 -- Bytes have one first fault.
-use Rattle.std.proofs.Common.{◌≡◌, ◌≢◌, ◌⊎◌, inl, inr, ℕ, zero, suc, ◌+◌, ◌-◌, ◌<◌, ◌≤◌, ◌==◌, List, [], ◌∷◌, ◌++◌, length, get_or, take, drop, map, count_by, refl, sym, ◌∙◌, ap, subst, arith}
+use Rattle.std.proofs.Common.{◌≡◌, inl, inr, ℕ, zero, suc, ◌+◌, ◌-◌, ◌<◌, ◌≤◌, ◌==◌, List, [], ◌∷◌, ◌++◌, length, get_or, take, drop, map, count_by, refl, sym, ◌∙◌, ap, subst, arith}
 use Rattle.std.proofs.lemmas.Bool.{cases_order}
-use Rattle.std.proofs.lemmas.List.{length-append, length-drop, length-map, take-append-drop, drop_more}
+use Rattle.std.proofs.lemmas.List.{length-append, length-map, take-append-drop, drop_more}
 use Rattle.bp_base.specs.Limits.{most_leaves, most_tree_bytes}
 use Rattle.bp_base.specs.Tree.{TreeValue, leaf_count}
 use Rattle.bp_tree.specs.declared.edge.Edge.{Edge}
@@ -10,7 +10,7 @@ use Rattle.bp_tree.specs.declared.fault.TreeKind.TheVariants.{TooLong, BadJson, 
 use Rattle.bp_tree.specs.declared.fault.TreeFault.{TreeFault}
 use Rattle.bp_tree.specs.Lines.{lines_of, words_of, rows}
 use Rattle.bp_tree.specs.Edges.{HasEdges, edge_words, root_children}
-use Rattle.bp_tree.specs.Faults.{HasFault, HasKind, IsRow, IsFirstFault, IsTreeFault, FaultIn, Makes, order}
+use Rattle.bp_tree.specs.Faults.{HasKind, IsRow, IsFirstFault, IsTreeFault, FaultIn, Makes, order}
 use Rattle.bp_tree.proofs.Growth.{edge_count}
 use Rattle.bp_tree.proofs.Rows.{rows_append, rows_cons}
 use Rattle.bp_tree.proofs.OneTree.{same_edges, same_tree}
@@ -62,7 +62,7 @@ no_row : (lines : List (List ℕ)) (n : ℕ) → IsRow lines n → rows lines �
 no_row lines n row none =
     let less : n - 1 < length lines = omega (arith, row.from, row.to) in
     let split : lines ≡ take (n - 1) lines ++ get_or lines (n - 1) [] ∷ drop (n - 1 + 1) lines =
-      sym (take-append-drop (n - 1) lines) ∙ ap (λ (ls : List (List ℕ)). take (n - 1) lines ++ ls) (drop_more lines (n - 1) [] less) in
+    sym (take-append-drop (n - 1) lines) ∙ ap (λ (ls : List (List ℕ)). take (n - 1) lines ++ ls) (drop_more lines (n - 1) [] less) in
     let rs = ap rows split ∙ rows_append (take (n - 1) lines) (get_or lines (n - 1) [] ∷ drop (n - 1 + 1) lines) ∙ ap (λ (r : List (List (List ℕ))). rows (take (n - 1) lines) ++ r) (rows_cons (get_or lines (n - 1) []) (drop (n - 1 + 1) lines) row.worded) in
     omega (arith, ap length (sym none ∙ rs), length-append (rows (take (n - 1) lines)) (words_of (get_or lines (n - 1) []) ∷ rows (drop (n - 1 + 1) lines)))
 

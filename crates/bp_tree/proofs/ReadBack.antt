@@ -1,25 +1,25 @@
 -- The canonical text of a tree is a text of it.
-use Rattle.std.proofs.Common.{◌≡◌, ◌≢◌, inl, inr, ℕ, zero, suc, ◌+◌, ◌-◌, ◌*◌, ◌^◌, ◌<◌, ◌≤◌, Bool, true, false, cond, ◌==◌, List, [], ◌∷◌, ◌++◌, length, get_or, take, drop, map, All, decimal, refl, sym, ◌∙◌, ap, subst, arith}
+use Rattle.std.proofs.Common.{◌≡◌, ◌≢◌, ℕ, zero, suc, ◌+◌, ◌-◌, ◌*◌, ◌^◌, ◌<◌, ◌≤◌, Bool, true, false, cond, ◌==◌, List, [], ◌∷◌, ◌++◌, length, get_or, take, drop, map, All, decimal, refl, sym, ◌∙◌, ap, arith}
 use Rattle.std.specs.List.{flat_map, range_with_len, before_first, AllByRecursion}
 use Rattle.std.specs.Str.Lines.{strip_carriage_return}
-use Rattle.std.proofs.lemmas.Bool.{ne_eqb, cases_lt}
+use Rattle.std.proofs.lemmas.Bool.{ne_eqb}
 use Rattle.std.proofs.lemmas.Bool.Decides.{nat_tests}
-use Rattle.std.proofs.lemmas.List.{append_assoc, length-append, length-map, length-drop, get_or-drop, get_or_default, take_all, take_at, drop_at, get_or_at, get_or_append_left, same_lists, take-append-le}
-use Rattle.std.proofs.lemmas.List.Elements.{All-append, All-cons, All-nil, All-get_or, All-weaker, All-from_get_or}
+use Rattle.std.proofs.lemmas.List.{append_assoc, length-append, length-drop, get_or-drop, get_or_default, take_all, take_at, drop_at, get_or_at, get_or_append_left, same_lists}
+use Rattle.std.proofs.lemmas.List.Elements.{All-append, All-cons, All-get_or, All-weaker, All-from_get_or}
 use Rattle.std.proofs.lemmas.List.Sums.{position_or_len_is}
 use Rattle.std.proofs.lemmas.List.FromFn.{length-range_with_len, get_or-map-range_with_len, length-map-range_with_len}
 use Rattle.std.proofs.lemmas.Fmt.{decimal_is_IsNumeral, decimal_nonempty, length-decimal-le}
 use Rattle.std.proofs.lemmas.Str.Parse.{digit_at}
-use Rattle.bp_base.specs.Limits.{most_tree_bytes, most_length}
 use Rattle.bp_base.specs.Name.{IsName, is_name_byte}
-use Rattle.bp_base.specs.Tree.{TreeValue, IsTree, edges, parent, length_of, name_of, node_count}
+use Rattle.bp_base.specs.Tree.{TreeValue, IsTree, edges, parent, length_of, name_of}
 use Rattle.bp_tree.specs.declared.edge.Edge.{Edge}
 use Rattle.bp_tree.specs.Lines.{lines_of, content, words, words_of, rows, is_blank}
-use Rattle.bp_tree.specs.Edges.{HasEdges, IsLength, edge_words, uppers, lowers, lengths}
+use Rattle.bp_tree.specs.Edges.{HasEdges, IsLength, edge_words, uppers, lowers}
 use Rattle.bp_tree.specs.Text.{TreeOf, tree_line, tree_text}
 use Rattle.bp_tree.proofs.LineLists.{lines_lf, lines_none}
 use Rattle.bp_tree.proofs.WordLists.{word_then, word_last, words_blank}
 use Rattle.bp_tree.proofs.Rows.{rows_cons}
+use Rattle.bp_tree.proofs.OneTree.{one_edges}
 use Rattle.bp_tree.proofs.TwoLeaves.{some_nodes}
 
 -- a byte of a word: no blank, no line end and no mark of a comment
@@ -115,7 +115,7 @@ head_names [] some = absurd (omega arith)
 head_names (n ∷ ns) some = refl
 
 module _ (T : TreeValue) (t : IsTree T) where
-  abbrev edge_of : ℕ → Edge
+  abbrev pub edge_of : ℕ → Edge
   edge_of k = record { upper = name_of T (parent T k); lower = name_of T k; length = length_of T k }
 
   nodes : 2 ≤ length T.parents
@@ -164,12 +164,16 @@ module _ (T : TreeValue) (t : IsTree T) where
       let root : parent T 1 ≡ 0 = omega (arith, falls) in
       ap (λ (n : ℕ). take 1 (uppers (map edge_of (range_with_len 1 n)))) many ∙ ap (λ (p : ℕ). name_of T p ∷ []) root
 
-  has_edges : HasEdges T es
+  pub has_edges : HasEdges T (map edge_of (edges T))
   has_edges = record {
     names = head_names T.names (omega (arith, nodes, t.names_as_parents)) ∙ ap (λ (ns : List (List ℕ)). name_of T 0 ∷ ns) lower_names ∙ ap (λ (ns : List (List ℕ)). ns ++ lowers es) (sym root_name);
     uppers = ap (map (name_of T)) (at_edges T.parents (parent T) 0 refl (λ k. refl)) ∙ twice (name_of T) (parent T) ks ∙ sym (twice (λ (e : Edge). e.upper) edge_of ks);
     lengths = at_edges T.lengths (length_of T) 0 t.lengths_as_parents (λ k. refl) ∙ sym (twice (λ (e : Edge). e.length) edge_of ks);
   }
+
+  -- the edges of T are these
+  pub edges_are : (fs : List Edge) → HasEdges T fs → fs ≡ map edge_of (edges T)
+  edges_are fs has = one_edges T fs (map edge_of (edges T)) has has_edges
 
   pub reads_back : TreeOf (tree_text T) T
   unfolding tree_text

@@ -1,12 +1,12 @@
 -- A tree whose root has two children has two leaves: fewer nodes are parents than there are edges.
-use Rattle.std.proofs.Common.{◌≡◌, inl, inr, ℕ, zero, suc, ◌+◌, ◌-◌, ◌<◌, ◌≤◌, Bool, true, false, cond, ◌==◌, ◌||◌, not, List, [], ◌∷◌, length, get_or, drop, filter, sum_by, count_by, refl, sym, ◌∙◌, ap, subst, arith, eqb}
+use Rattle.std.proofs.Common.{◌≡◌, inl, inr, ℕ, zero, suc, ◌+◌, ◌<◌, ◌≤◌, Bool, true, false, cond, ◌==◌, ◌||◌, not, List, [], ◌∷◌, length, get_or, drop, filter, sum_by, count_by, refl, sym, ◌∙◌, ap, arith}
 use Rattle.std.specs.List.{list_any, range_with_len}
 use Rattle.std.proofs.lemmas.Bool.{cases_eq, eq-eqb, ne_eqb}
 use Rattle.std.proofs.lemmas.List.{get_or-drop, length-drop}
 use Rattle.std.proofs.lemmas.List.Sums.{sum_by-cons, length-filter}
 use Rattle.std.proofs.lemmas.List.Filters.{length-filter_both}
 use Rattle.std.proofs.lemmas.List.FromFn.{length-range_with_len}
-use Rattle.bp_base.specs.Tree.{TreeValue, IsTree, parent, has_child, leaf_nodes, leaf_count}
+use Rattle.bp_base.specs.Tree.{TreeValue, IsTree, parent, has_child, leaf_count}
 use Rattle.bp_base.specs.Limits.{most_leaves}
 use Rattle.bp_tree.specs.Edges.{IsGrowing, root_children, leaves_of}
 

@@ -1,5 +1,5 @@
 -- The first fault of bytes that are no tree.
-use Rattle.std.specs.Prelude.{◌≡◌, ◌≢◌, ◌⊎◌, ℕ, ◌+◌, ◌-◌, ◌<◌, ◌≤◌, List, [], ◌∷◌, ◌++◌, length, map, take, IsTrue, slice_index_or, All, Contains, Result, Ok, Err}
+use Rattle.std.specs.Prelude.{◌≡◌, ◌≢◌, ◌⊎◌, ℕ, ◌-◌, ◌<◌, ◌≤◌, List, [], ◌++◌, length, map, take, IsTrue, slice_index_or, All, Contains, Result, Ok, Err}
 use Rattle.bp_base.specs.Limits.{most_nodes, most_leaves, most_tree_bytes}
 use Rattle.bp_base.specs.Name.{IsName}
 use Rattle.bp_base.specs.Tree.{TreeValue, leaf_count}

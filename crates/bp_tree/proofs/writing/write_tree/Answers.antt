@@ -1,4 +1,4 @@
-use Rattle.std.proofs.Common.{◌+◌, ◌-◌, length, arith, ap, ◌∙◌}
+use Rattle.std.proofs.Common.{◌+◌, ◌-◌, length, arith, ap}
 use Rattle.bp_tree.specs.Text.{tree_line, tree_text}
 use Rattle.bp_text.proofs.Puts.{range_more, range_exit, range_all}
 use Rattle.bp_tree.proofs.ReadBack.{reads_back}
