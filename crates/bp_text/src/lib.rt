@@ -7,7 +7,7 @@ mod writing;
 
 pub use cut::line;
 pub use digits::{long_number, number};
-pub use writing::{put, put_number, put_parts};
+pub use writing::{Digits, put, put_number, put_parts};
 
 #[cfg(test)]
 mod tests;

@@ -35,6 +35,27 @@ pub fn put_number<K: Sink>(sink: &mut K, value: u64) -> Result<(), Failed>
     ensures text { Puts (K.held sink.old) (K.held sink.new) result (decimal value) }
     ensures cause { HasCause (K.faults sink.old) (K.faults sink.new) result }
 {
-    let mut buffer = Buffer::new();
-    put(sink, buffer.format(value).as_bytes())
+    let mut digits = Digits::new();
+    put(sink, digits.of(value))
+}
+
+/// Room for the digits of a number, as a part of a line.
+#[derive(Drop)]
+pub struct Digits {
+    buffer: Buffer,
+}
+
+impl Digits {
+    pub fn new() -> Digits {
+        Digits {
+            buffer: Buffer::new(),
+        }
+    }
+
+    /// The number in decimal.
+    pub fn of(&mut self, value: u64) -> &[u8]
+        ensures { result.now ≡ decimal value }
+    {
+        self.buffer.format(value).as_bytes()
+    }
 }

@@ -1,15 +1,12 @@
 -- Adding a line's edge, or not.
-use Rattle.std.proofs.Common.{◌≡◌, ◌≢◌, ◌⊎◌, inl, inr, ℕ, ◌<◌, ◌≤◌, List, [], ◌∷◌, ◌++◌, length, get_or, Contains, Result, Ok, Err, refl, sym, ◌∙◌, ap, subst, arith}
-use Rattle.std.proofs.lemmas.Bool.{false≢true}
-use Rattle.bp_base.specs.Limits.{most_length, most_number}
+use Rattle.std.proofs.Common.{◌≡◌, inr, ℕ, ◌<◌, List, [], length, Result, Ok, Err, sym, ◌∙◌, ap, subst, arith}
 use Rattle.bp_base.specs.Name.{IsName}
 use Rattle.bp_base.specs.Tree.{TreeValue}
-use Rattle.bp_text.specs.Numbers.{IsNumber}
 use Rattle.bp_tree.specs.declared.edge.Edge.{Edge}
 use Rattle.bp_tree.specs.declared.fault.TreeKind.{TreeKind}
 use Rattle.bp_tree.specs.declared.fault.TreeKind.TheVariants.{TooLong, BadJson, BadShape, BadByte, WordCount, BadName, BadLength, UnknownParent, RepeatedName, TooManyNodes, Empty, RootIsLeaf, TooManyLeaves}
 use Rattle.bp_tree.specs.Lines.{words_of, word}
-use Rattle.bp_tree.specs.Edges.{edge_words, IsLength}
+use Rattle.bp_tree.specs.Edges.{edge_words}
 use Rattle.bp_tree.specs.Faults.{HasKind, IsKind, LacksUpper, RepeatsLower, IsFull, order}
 use Rattle.bp_tree.specs.Growing.{AddsEdge, AddsLine, IsEdgeLine}
 

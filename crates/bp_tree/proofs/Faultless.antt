@@ -1,17 +1,15 @@
 -- Lines that give the edges of a growing tree have no fault.
-use Rattle.std.proofs.Common.{◌≡◌, ◌≢◌, ◌⊎◌, inl, inr, ℕ, zero, suc, ◌+◌, ◌-◌, ◌<◌, ◌≤◌, List, [], ◌∷◌, ◌++◌, length, get_or, take, drop, map, All, AllPairs, Contains, decimal, refl, sym, ◌∙◌, ap, subst, arith}
-use Rattle.std.proofs.lemmas.List.{append_assoc, length-append, length-map, length-drop, map-append, get_or-drop, get_or-map, get_or_at, get_or_append_left, get_or_default, get_or-take, take_more, take-take, take-append-drop, drop_more, length-take-le}
+use Rattle.std.proofs.Common.{◌≡◌, inl, inr, ℕ, ◌+◌, ◌-◌, ◌<◌, ◌≤◌, List, [], ◌∷◌, ◌++◌, length, get_or, take, drop, map, refl, sym, ◌∙◌, ap, subst, arith}
+use Rattle.std.proofs.lemmas.List.{append_assoc, length-append, length-map, length-drop, map-append, get_or-drop, get_or-map, get_or_at, get_or_append_left, get_or_default, get_or-take, take-take, take-append-drop, drop_more, length-take-le}
 use Rattle.std.proofs.lemmas.List.Elements.{All-get_or}
-use Rattle.bp_base.specs.Limits.{most_nodes, most_length, most_number}
 use Rattle.bp_base.specs.Name.{IsName}
 use Rattle.bp_base.specs.Tree.{TreeValue, name_of, parent, length_of}
-use Rattle.bp_text.specs.Numbers.{IsNumber}
 use Rattle.bp_tree.specs.declared.edge.Edge.{Edge}
 use Rattle.bp_tree.specs.declared.fault.TreeKind.{TreeKind}
 use Rattle.bp_tree.specs.declared.fault.TreeKind.TheVariants.{TooLong, BadJson, BadShape, BadByte, WordCount, BadName, BadLength, UnknownParent, RepeatedName, TooManyNodes, Empty, RootIsLeaf, TooManyLeaves}
-use Rattle.bp_tree.specs.Lines.{content, words, words_of, rows, word}
+use Rattle.bp_tree.specs.Lines.{content, words_of, rows, word}
 use Rattle.bp_tree.specs.Edges.{HasEdges, IsGrowing, IsLength, edge_words, uppers, lowers, lengths}
-use Rattle.bp_tree.specs.Faults.{HasKind, HasFault, IsRow, LacksUpper, RepeatsLower, IsFull, line_at, names_before, names_of}
+use Rattle.bp_tree.specs.Faults.{HasKind, HasFault, LacksUpper, RepeatsLower, IsFull, line_at, names_of}
 use Rattle.bp_tree.specs.Growing.{GrewFrom}
 use Rattle.bp_tree.proofs.Rows.{rows_append, rows_cons, names_edges, Parted, parted}
 use Rattle.bp_tree.proofs.TextBytes.{text_bytes}

@@ -1,8 +1,8 @@
 -- A tree grows by a node at its end.
-use Rattle.std.proofs.Common.{◌≡◌, ◌≢◌, ◌⊎◌, inl, inr, ℕ, zero, suc, ◌+◌, ◌<◌, ◌≤◌, Bool, true, false, cond, List, [], ◌∷◌, ◌++◌, length, get_or, take, drop, map, filter, All, AllPairs, Contains, Err, refl, sym, ◌∙◌, ap, subst, arith}
+use Rattle.std.proofs.Common.{◌≡◌, ◌≢◌, inl, inr, ℕ, zero, suc, ◌+◌, ◌<◌, ◌≤◌, Bool, true, false, cond, List, [], ◌∷◌, ◌++◌, length, get_or, take, drop, map, filter, Contains, Err, refl, sym, ◌∙◌, ap, subst, arith}
 use Rattle.std.specs.List.{range_with_len}
 use Rattle.std.proofs.lemmas.Bool.{cases_lt, cases_eq}
-use Rattle.std.proofs.lemmas.List.{append_assoc, length_push, length-append, length-map, length-drop, get_or_append_left, get_or_push, get_or_past, get_or-drop, get_or-map, get_or_default, drop-append-le, take-append-le, map-append, map_push, nil_from_length, same_lists}
+use Rattle.std.proofs.lemmas.List.{append_assoc, length_push, length-append, length-map, length-drop, get_or_append_left, get_or_push, get_or_past, get_or-drop, get_or_default, drop-append-le, take-append-le, map-append, map_push, nil_from_length}
 use Rattle.std.proofs.lemmas.List.Elements.{All-push, filter-append}
 use Rattle.std.proofs.lemmas.List.FromFn.{length-range_with_len}
 use Rattle.std.proofs.lemmas.List.Quantifiers.{all_pairs_push}
@@ -10,7 +10,7 @@ use Rattle.std.proofs.lemmas.List.Sums.{length-filter, count_by-le-length}
 use Rattle.bp_text.proofs.Puts.{range_push}
 use Rattle.bp_base.specs.Limits.{most_nodes, most_length}
 use Rattle.bp_base.specs.Name.{IsName}
-use Rattle.bp_base.specs.Tree.{TreeValue, IsTree, node_count, parent, length_of, name_of}
+use Rattle.bp_base.specs.Tree.{TreeValue, parent, name_of}
 use Rattle.bp_tree.specs.declared.edge.Edge.{Edge}
 use Rattle.bp_tree.specs.Edges.{HasEdges, IsGrowing, IsLength, uppers, lowers, lengths}
 use Rattle.bp_tree.specs.declared.fault.TreeKind.{TreeKind}

@@ -9,3 +9,5 @@ pub mod Faultless
 pub mod OneTree
 pub mod SoFar
 pub mod Whole
+pub mod ReadBack
+pub mod OneFault

@@ -1,11 +1,10 @@
 -- Edges are those of one tree.
-use Rattle.std.proofs.Common.{◌≡◌, ◌≢◌, inl, inr, ℕ, zero, suc, ◌+◌, ◌-◌, ◌^◌, ◌<◌, ◌≤◌, List, [], ◌∷◌, ◌++◌, length, get_or, drop, map, All, AllPairs, refl, sym, ◌∙◌, ap, subst, arith}
+use Rattle.std.proofs.Common.{◌≡◌, ◌≢◌, inl, inr, ℕ, suc, ◌+◌, ◌^◌, ◌<◌, ◌≤◌, List, [], ◌∷◌, ◌++◌, length, get_or, take, drop, map, All, AllPairs, refl, sym, ◌∙◌, ap, arith}
 use Rattle.std.proofs.lemmas.Bool.{cases_order}
-use Rattle.std.proofs.lemmas.List.{get_or-drop, length-drop, get_or-map, length-map, get_or_past}
-use Rattle.bp_base.specs.Limits.{most_length}
-use Rattle.bp_base.specs.Tree.{TreeValue, name_of, length_of}
+use Rattle.std.proofs.lemmas.List.{append_cancel_left, get_or-drop, length-drop, get_or-map}
+use Rattle.bp_base.specs.Tree.{TreeValue, name_of}
 use Rattle.bp_tree.specs.declared.edge.Edge.{Edge}
-use Rattle.bp_tree.specs.Edges.{HasEdges, IsGrowing, edge_words, lengths}
+use Rattle.bp_tree.specs.Edges.{HasEdges, IsGrowing, edge_words, uppers, lowers, lengths}
 use Rattle.bp_tree.proofs.Growth.{edge_count, parents_in}
 use Rattle.bp_tree.proofs.Rows.{one_list}
 
@@ -54,3 +53,25 @@ same_tree S T s t es has_s has_t some =
     let longs : S.lengths ≡ T.lengths =
     behind S.lengths (omega (arith, s_some, s.lengths_as_parents)) s.root_length ∙ ap (λ (ls : List ℕ). 0 ∷ ls) (has_s.lengths ∙ sym has_t.lengths) ∙ sym (behind T.lengths (omega (arith, t_some, t.lengths_as_parents)) t.root_length) in
     λ i. record { parents = parents i; lengths = longs i; names = names i }
+
+-- edges are told by their three lists
+by_parts : (es fs : List Edge) → uppers es ≡ uppers fs → lowers es ≡ lowers fs → lengths es ≡ lengths fs → es ≡ fs
+by_parts [] [] us ls ns = refl
+by_parts [] (f ∷ fs) us ls ns = absurd (omega (arith, ap length ns))
+by_parts (e ∷ es) [] us ls ns = absurd (omega (arith, ap length ns))
+by_parts (e ∷ es) (f ∷ fs) us ls ns =
+    let upper : e.upper ≡ f.upper = cc in
+    let lower : e.lower ≡ f.lower = cc in
+    let long : e.length ≡ f.length = cc in
+    let us' : uppers es ≡ uppers fs = cc in
+    let ls' : lowers es ≡ lowers fs = cc in
+    let ns' : lengths es ≡ lengths fs = cc in
+    let rest = by_parts es fs us' ls' ns' in
+    λ i. record { upper = upper i; lower = lower i; length = long i } ∷ rest i
+
+-- a tree has one list of edges
+pub one_edges : (T : TreeValue) (es fs : List Edge) → HasEdges T es → HasEdges T fs → es ≡ fs
+one_edges T es fs has_e has_f =
+    let us : uppers es ≡ uppers fs = sym has_e.uppers ∙ has_f.uppers in
+    let same : take 1 (uppers fs) ++ lowers es ≡ take 1 (uppers fs) ++ lowers fs = ap (λ (l : List (List ℕ)). take 1 l ++ lowers es) (sym us) ∙ sym has_e.names ∙ has_f.names in
+    by_parts es fs us (append_cancel_left (take 1 (uppers fs)) (lowers es) (lowers fs) same) (sym has_e.lengths ∙ has_f.lengths)

@@ -1,14 +1,13 @@
 -- Lines that are read one after another.
-use Rattle.std.proofs.Common.{◌≡◌, ◌≢◌, ◌⊎◌, inl, inr, ℕ, zero, suc, ◌+◌, ◌-◌, ◌<◌, ◌≤◌, List, [], ◌∷◌, ◌++◌, length, get_or, take, drop, map, Ok, Err, refl, sym, ◌∙◌, ap, subst, arith}
+use Rattle.std.proofs.Common.{◌≡◌, inl, inr, ℕ, ◌+◌, ◌-◌, ◌<◌, ◌≤◌, List, [], ◌∷◌, ◌++◌, length, get_or, take, drop, map, Ok, Err, refl, sym, ◌∙◌, ap, subst, arith}
 use Rattle.std.proofs.lemmas.List.{length-drop, get_or-drop, drop-drop, drop_all, take_all, map_push, append-nil}
 use Rattle.bp_base.specs.declared.point.Line.{Line}
 use Rattle.bp_base.specs.Tree.{TreeValue}
 use Rattle.bp_text.specs.Lines.{IsLineAt}
-use Rattle.bp_tree.specs.declared.edge.Edge.{Edge}
 use Rattle.bp_tree.specs.declared.fault.TreeKind.{TreeKind}
 use Rattle.bp_tree.specs.Lines.{lines_of, words_of, rows}
-use Rattle.bp_tree.specs.Edges.{HasEdges, IsGrowing, edge_words, uppers, lowers}
-use Rattle.bp_tree.specs.Faults.{HasFault, IsKind, IsRow, IsFirstFault, names_of, names_before, line_at}
+use Rattle.bp_tree.specs.Edges.{HasEdges, IsGrowing, edge_words}
+use Rattle.bp_tree.specs.Faults.{IsKind, IsFirstFault, names_of, names_before, line_at}
 use Rattle.bp_tree.specs.Growing.{AddsLine, GrewFrom, no_nodes}
 use Rattle.bp_tree.proofs.LineLists.{line_cut, lines_none}
 use Rattle.bp_tree.proofs.Rows.{rows_more, rows_skipped, rows_cons, names_edges}

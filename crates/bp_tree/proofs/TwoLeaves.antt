@@ -1,12 +1,12 @@
 -- A tree whose root has two children has two leaves: fewer nodes are parents than there are edges.
-use Rattle.std.proofs.Common.{◌≡◌, inl, inr, ℕ, zero, suc, ◌+◌, ◌-◌, ◌<◌, ◌≤◌, Bool, true, false, cond, ◌==◌, ◌||◌, not, List, [], ◌∷◌, length, get_or, drop, filter, sum_by, count_by, refl, sym, ◌∙◌, ap, subst, arith, eqb}
+use Rattle.std.proofs.Common.{◌≡◌, inl, inr, ℕ, zero, suc, ◌+◌, ◌<◌, ◌≤◌, Bool, true, false, cond, ◌==◌, ◌||◌, not, List, [], ◌∷◌, length, get_or, drop, filter, sum_by, count_by, refl, sym, ◌∙◌, ap, arith}
 use Rattle.std.specs.List.{list_any, range_with_len}
 use Rattle.std.proofs.lemmas.Bool.{cases_eq, eq-eqb, ne_eqb}
 use Rattle.std.proofs.lemmas.List.{get_or-drop, length-drop}
 use Rattle.std.proofs.lemmas.List.Sums.{sum_by-cons, length-filter}
 use Rattle.std.proofs.lemmas.List.Filters.{length-filter_both}
 use Rattle.std.proofs.lemmas.List.FromFn.{length-range_with_len}
-use Rattle.bp_base.specs.Tree.{TreeValue, IsTree, parent, has_child, leaf_nodes, leaf_count}
+use Rattle.bp_base.specs.Tree.{TreeValue, IsTree, parent, has_child, leaf_count}
 use Rattle.bp_base.specs.Limits.{most_leaves}
 use Rattle.bp_tree.specs.Edges.{IsGrowing, root_children, leaves_of}
 
@@ -164,3 +164,11 @@ tree_is U t ps qs p_is q_is n m counted leaves more few =
     let here : n ≡ root_children U = counted ∙ ap (λ (rs : List ℕ). count_by (λ p. p == 0) (drop 1 rs)) p_is in
     let there : m ≡ leaf_count U = leaves ∙ ap leaves_of q_is in
     tree_grown U t (omega (arith, here, more)) (omega (arith, there, few))
+
+pub some_nodes : (T : TreeValue) → IsTree T → 2 ≤ length T.parents
+some_nodes T t = many T.parents t.root_children
+  where
+    many : (ps : List ℕ) → 2 ≤ often (drop 1 ps) 0 → 2 ≤ length ps
+    many [] two = absurd (omega (arith, two))
+    many (p ∷ []) two = absurd (omega (arith, two))
+    many (p ∷ q ∷ ps) two = omega arith

@@ -1,15 +1,15 @@
 -- What the lines of a text come to.
-use Rattle.std.proofs.Common.{◌≡◌, ◌≢◌, ℕ, ◌+◌, ◌-◌, ◌<◌, ◌≤◌, List, [], ◌∷◌, length, take, drop, map, ◌==◌, count_by, Ok, Err, refl, sym, ◌∙◌, ap, subst, arith}
+use Rattle.std.proofs.Common.{◌≡◌, ℕ, ◌≤◌, List, [], ◌∷◌, length, take, drop, map, ◌==◌, count_by, Ok, Err, refl, sym, ◌∙◌, ap, subst, arith}
 use Rattle.std.proofs.lemmas.List.{length-drop, length-map, take_all, nil_from_length}
 use Rattle.bp_base.specs.Limits.{most_tree_bytes}
-use Rattle.bp_base.specs.Tree.{TreeValue, IsTree, leaf_count}
+use Rattle.bp_base.specs.Tree.{TreeValue, leaf_count}
 use Rattle.bp_tree.specs.declared.edge.Edge.{Edge}
 use Rattle.bp_tree.specs.declared.fault.TreeKind.{TreeKind}
 use Rattle.bp_tree.specs.declared.fault.TreeKind.TheVariants.{TooLong, BadJson, BadShape, BadByte, WordCount, BadName, BadLength, UnknownParent, RepeatedName, TooManyNodes, Empty, RootIsLeaf, TooManyLeaves}
 use Rattle.bp_tree.specs.declared.fault.TreeFault.{TreeFault}
 use Rattle.bp_tree.specs.Lines.{lines_of, rows}
 use Rattle.bp_tree.specs.Edges.{HasEdges, IsGrowing, edge_words, root_children}
-use Rattle.bp_tree.specs.Text.{GivesEdges, TreeOf}
+use Rattle.bp_tree.specs.Text.{TreeOf}
 use Rattle.bp_tree.specs.Faults.{HasFault, IsFirstFault, Makes, FaultIn, IsTreeFault, IsNoTree}
 use Rattle.bp_tree.specs.Growing.{GrewFrom, Finishes}
 use Rattle.bp_tree.proofs.Growth.{edge_count}
@@ -101,3 +101,12 @@ module _ (bytes : List ℕ) (T : TreeValue) (text : TreeOf bytes T) where
 
 pub no_tree : (bytes : List ℕ) (f : TreeFault) → IsTreeFault bytes f → IsNoTree bytes
 no_tree bytes f fault T text = no_fault_in bytes T text f.line f.kind fault
+
+-- bytes are a text of one tree
+pub one_tree : (bytes : List ℕ) (T U : TreeValue) → TreeOf bytes T → TreeOf bytes U → U ≡ T
+one_tree bytes T U first second =
+    made_is bytes T first U (makes bytes U (growing_tree U second.tree) (second.given, second.gives, second.has) second.short)
+
+pub tree_found : (bytes : List ℕ) (T U : TreeValue) → length bytes ≤ most_tree_bytes → GrewFrom (lines_of bytes) T → Finishes T (Ok U) → TreeOf bytes U
+tree_found bytes T U short (es, given, has) (is, tree) =
+    subst (TreeOf bytes) (sym is) (record { short = short; tree = tree; given = es; gives = given; has = has })

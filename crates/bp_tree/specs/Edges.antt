@@ -1,5 +1,5 @@
 -- A tree as the list of its edges, each the upper name, the lower name and the length.
-use Rattle.std.specs.Prelude.{◌≡◌, ◌≢◌, ℕ, ◌<◌, ◌≤◌, ◌==◌, List, [], ◌∷◌, ◌++◌, length, map, take, drop, decimal, count_by, filter, not, slice_index, All, AllPairs}
+use Rattle.std.specs.Prelude.{◌≡◌, ◌≢◌, ℕ, ◌<◌, ◌≤◌, ◌==◌, List, [], ◌∷◌, ◌++◌, length, map, take, drop, decimal, count_by, filter, not, All, AllPairs}
 use Rattle.std.specs.List.{list_any, range_with_len}
 use Rattle.bp_base.specs.Limits.{most_nodes, most_length}
 use Rattle.bp_base.specs.Name.{IsName}

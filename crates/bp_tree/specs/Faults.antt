@@ -1,5 +1,5 @@
 -- The first fault of bytes that are no tree.
-use Rattle.std.specs.Prelude.{◌≡◌, ◌≢◌, ◌⊎◌, ℕ, ◌+◌, ◌-◌, ◌<◌, ◌≤◌, List, [], ◌∷◌, ◌++◌, length, map, take, IsTrue, slice_index_or, All, Contains, Result, Ok, Err}
+use Rattle.std.specs.Prelude.{◌≡◌, ◌≢◌, ◌⊎◌, ℕ, ◌-◌, ◌<◌, ◌≤◌, List, [], ◌++◌, length, map, take, IsTrue, slice_index_or, All, Contains, Result, Ok, Err}
 use Rattle.bp_base.specs.Limits.{most_nodes, most_leaves, most_tree_bytes}
 use Rattle.bp_base.specs.Name.{IsName}
 use Rattle.bp_base.specs.Tree.{TreeValue, leaf_count}
@@ -112,3 +112,9 @@ abbrev pub ReadsTree : List ℕ → Result TreeValue ReadTree → Type 0
 ReadsTree bytes (Ok T) = TreeOf bytes T
 ReadsTree bytes (Err (Fault f)) = IsTreeFault bytes f × IsNoTree bytes
 ReadsTree bytes (Err NoMemory) = Unit
+
+-- No other tree and no other fault is that of the bytes.
+abbrev pub IsOnlyAnswer : List ℕ → Result TreeValue ReadTree → Type 0
+IsOnlyAnswer bytes (Ok T) = (U : TreeValue) → TreeOf bytes U → U ≡ T
+IsOnlyAnswer bytes (Err (Fault f)) = (g : TreeFault) → IsTreeFault bytes g → g ≡ f
+IsOnlyAnswer bytes (Err NoMemory) = Unit

@@ -9,7 +9,7 @@ use Rattle.bp_tree.specs.declared.fault.TreeKind.TheVariants.{UnknownParent, Rep
 use Rattle.bp_tree.specs.declared.fault.TreeFault.{TreeFault}
 use Rattle.bp_tree.specs.Lines.{content, words_of, rows, is_text_byte}
 use Rattle.bp_tree.specs.Edges.{HasEdges, IsLength, edge_words, root_children}
-use Rattle.bp_tree.specs.Faults.{LacksUpper, RepeatsLower, IsFull, IsKind, IsFirstFault, order}
+use Rattle.bp_tree.specs.Faults.{LacksUpper, RepeatsLower, IsFull, IsKind, IsFirstFault}
 
 abbrev pub no_nodes : TreeValue
 no_nodes = record { parents = []; lengths = []; names = [] }

@@ -1,5 +1,5 @@
 -- The lines of a text, and the words of a line.
-use Rattle.std.specs.Prelude.{ℕ, List, [], ◌∷◌, length, map, filter, Bool, not, ◌==◌, ◌&&◌, ◌||◌, nat_lt, nat_le, slice_index_or, if◌then◌else◌}
+use Rattle.std.specs.Prelude.{ℕ, List, [], ◌∷◌, length, map, filter, Bool, ◌==◌, ◌&&◌, ◌||◌, nat_lt, nat_le, slice_index_or, if◌then◌else◌}
 use Rattle.std.specs.List.{slice_split, onto_first, before_first}
 use Rattle.std.specs.Str.Lines.{strip_carriage_return}
 

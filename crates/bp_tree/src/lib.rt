@@ -7,11 +7,13 @@ mod grower;
 mod leaves;
 mod reading;
 mod words;
+mod writing;
 
 pub use edge::Edge;
 pub use fault::{ReadTree, TreeFault, TreeKind};
 pub use grower::Grower;
 pub use reading::read_tree;
+pub use writing::write_tree;
 
 #[cfg(test)]
 mod tests;

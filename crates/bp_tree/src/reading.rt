@@ -1,6 +1,6 @@
 ghost use Rattle.std.specs.Prelude.{◌≡◌};
 ghost use Rattle.bp_tree.specs.Edges.{IsGrowing};
-ghost use Rattle.bp_tree.specs.Faults.{ReadsTree};
+ghost use Rattle.bp_tree.specs.Faults.{IsOnlyAnswer, ReadsTree};
 ghost use Rattle.bp_tree.specs.Growing.{AddsLine, ReadsLines, no_nodes};
 ghost use Rattle.bp_tree.specs.Lines.{lines_of};
 
@@ -12,7 +12,8 @@ use std::alloc::Global;
 
 /// The tree of a text. A fault is the first one, and comes exactly where the bytes are a text of no tree.
 pub fn read_tree(alloc: Global, bytes: &[u8]) -> Result<Tree, ReadTree>
-    ensures { ReadsTree bytes.now result }
+    ensures reads { ReadsTree bytes.now result }
+    ensures only { IsOnlyAnswer bytes.now result }
 {
     if bytes.len() as u64 > MOST_TREE_BYTES {
         return Err(of_the_whole(TreeKind::TooLong));

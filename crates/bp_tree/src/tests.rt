@@ -1,5 +1,6 @@
-use crate::{ReadTree, TreeKind, read_tree};
-use std::alloc::Global;
+use crate::{ReadTree, TreeKind, read_tree, write_tree};
+use bp_base::{Failed, MemSink, Tree};
+use std::alloc::{AllocError, Global};
 use std::test::Fail;
 
 // What reading answers: the line and the kind of a fault, or none.
@@ -48,4 +49,75 @@ fn faults_are_the_first(rt: HostRuntime) -> Result<(), Fail> {
         assert_eq!(rt; fault_of(rt.alloc(), text.as_bytes())?, want, "{text}");
     }
     Ok(())
+}
+
+// A star of so many leaves, each with an edge of length 1.
+fn star(alloc: Global, leaves: u64) -> Result<Vec<u8>, AllocError> {
+    let mut text = Vec::new(alloc);
+    for leaf in 0..leaves {
+        let line = format!(in alloc; "c n{leaf} 1\n")?;
+        text.extend_from_slice(line.as_bytes())?;
+    }
+    Ok(text)
+}
+
+#[test]
+fn limits_of_a_tree(rt: HostRuntime) -> Result<(), Fail> {
+    let rows = [
+        (32, None),
+        (33, Some((0, TreeKind::TooManyLeaves))),
+        (63, Some((0, TreeKind::TooManyLeaves))),
+        (64, Some((64, TreeKind::TooManyNodes))),
+    ];
+    for (leaves, want) in rows {
+        let text = star(rt.alloc(), leaves)?;
+        assert_eq!(rt; fault_of(rt.alloc(), &text)?, want, "{leaves} leaves");
+    }
+    let mut full = star(rt.alloc(), 4)?;
+    full.push(b'#')?;
+    full.resize(65_536, b'.')?;
+    assert_eq!(rt; fault_of(rt.alloc(), &full)?, None);
+    full.push(b'.')?;
+    assert_eq!(rt; fault_of(rt.alloc(), &full)?, Some((0, TreeKind::TooLong)));
+    Ok(())
+}
+
+fn tree_of(alloc: Global, bytes: &[u8]) -> Result<Tree, &'static str> {
+    match read_tree(alloc, bytes) {
+        Ok(tree) => Ok(tree),
+        Err(_) => Err("no tree"),
+    }
+}
+
+#[test]
+fn trees_are_written_in_node_order(rt: HostRuntime) -> Result<(), Fail> {
+    let alloc = rt.alloc();
+    let tree = tree_of(
+        alloc,
+        b"# star\r\nc\tp 1\r\n  c q  12 # second\r\n\r\np r 1\nc s 1000",
+    )?;
+    assert_eq!(rt; tree.parents(), [0, 0, 0, 1, 0].as_slice());
+    assert_eq!(rt; tree.lengths(), [0, 1, 12, 1, 1000].as_slice());
+    let mut sink = MemSink::new(alloc, 99, 3, Vec::new(alloc))?;
+    assert_eq!(rt; write_tree(&tree, &mut sink), Ok(()));
+    assert_eq!(rt;
+        sink.bytes.as_slice(),
+        b"c p 1\nc q 12\np r 1\nc s 1000\n".as_slice()
+    );
+    let mut full = MemSink::new(alloc, 8, 3, Vec::new(alloc))?;
+    assert_eq!(rt; write_tree(&tree, &mut full), Err(Failed));
+    assert_eq!(rt; full.bytes.as_slice(), b"c p 1\nc ".as_slice());
+    Ok(())
+}
+
+#[test]
+fn what_is_wrong_is_told(rt: HostRuntime) -> Result<(), Fail> {
+    match read_tree(rt.alloc(), b"c p 1\nc p 2\n") {
+        Ok(_) => Err("a tree".into()),
+        Err(error) => {
+            let text = format!(in rt.alloc(); "{error}")?;
+            assert_eq!(rt; text.as_str(), "line 2: RepeatedName");
+            Ok(())
+        }
+    }
 }

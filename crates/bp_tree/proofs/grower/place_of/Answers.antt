@@ -1,5 +1,5 @@
-use Rattle.std.proofs.Common.{arith, sym, refl, [], ◌∙◌}
-use Rattle.std.proofs.lemmas.List.{get_or_default, get_or_read}
+use Rattle.std.proofs.Common.{arith, [], ◌∙◌}
+use Rattle.std.proofs.lemmas.List.{get_or_default}
 use Rattle.bp_tree.proofs.grower.place_of.Goals as goal
 
 pub returns-clause-place : goal.returns-clause-place

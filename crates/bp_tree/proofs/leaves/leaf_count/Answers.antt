@@ -1,4 +1,4 @@
-use Rattle.std.proofs.Common.{ℕ, ◌+◌, ◌==◌, arith, drop, not, sym, ◌∙◌, ap, cond, refl}
+use Rattle.std.proofs.Common.{ℕ, ◌+◌, ◌==◌, arith, drop, not, sym, ◌∙◌, ap, cond}
 use Rattle.std.specs.List.{list_any}
 use Rattle.bp_tree.proofs.Growth.{count_more, count_small}
 use Rattle.bp_tree.proofs.leaves.leaf_count.Goals as goal

@@ -1,4 +1,4 @@
-use Rattle.std.proofs.Common.{◌≡◌, ◌≤◌, ◌-◌, length}
+use Rattle.std.proofs.Common.{◌≤◌, ◌-◌, length}
 use Rattle.bp_tree.specs.Edges.{IsGrowing}
 use Rattle.bp_tree.proofs.SoFar.{ReadSoFar}
 use Rattle.bp_tree.proofs.reading.read_lines.Given as goal

@@ -2,7 +2,7 @@ use Rattle.std.proofs.Common.{◌++◌, ◌∷◌, [], sym, subst, ◌∙◌}
 use Rattle.std.proofs.lemmas.Bool.{eqb-false}
 use Rattle.bp_base.specs.Tree.{TreeValue}
 use Rattle.bp_tree.specs.Edges.{HasEdges}
-use Rattle.bp_tree.proofs.Growth.{added, extends, refuses}
+use Rattle.bp_tree.proofs.Growth.{added, extends}
 use Rattle.bp_tree.proofs.grower.Grower.add.Goals as goal
 
 pub push-requires : goal.push-requires
