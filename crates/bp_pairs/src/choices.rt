@@ -23,10 +23,7 @@ impl ChoiceSet {
     pub fn count(&self) -> u64
         ensures { result ≡ length (choices_of self.now) }
     {
-        u64::from(self.left)
-            + u64::from(self.right)
-            + u64::from(self.below)
-            + u64::from(self.above)
+        u64::from(self.left) + u64::from(self.right) + u64::from(self.below) + u64::from(self.above)
     }
 
     /// The choice of number k, from 0 on.
