@@ -43,6 +43,14 @@ pub depth-split : (p : Pair) (rs : List Refutation) → depth_of (Split p rs) �
 unfolding depth_of
 depth-split p rs = ap depth_of (sym (rolls-Split p rs)) ∙ fold-roll-Refutation ℕ depth_at (Refutation-F.Split p rs)
 
+pub depth-closed : (claim : Claim) → depth_of (Closed claim) ≡ 0
+unfolding depth_of
+depth-closed claim = ap depth_of (sym (rolls-Closed claim)) ∙ fold-roll-Refutation ℕ depth_at (Refutation-F.Closed claim)
+
+pub depth-open : (claim : Claim) → depth_of (Open claim) ≡ 0
+unfolding depth_of
+depth-open claim = ap depth_of (sym (rolls-Open claim)) ∙ fold-roll-Refutation ℕ depth_at (Refutation-F.Open claim)
+
 one_deeper_all : (rs : List Refutation) (k : ℕ) (d : Refutation) → k < length rs → depth_of (get_or rs k d) + 1 ≤ one_deeper (map depth_of rs)
 one_deeper_all [] k d less = absurd (omega arith)
 one_deeper_all (r ∷ rs) zero d less = omega arith

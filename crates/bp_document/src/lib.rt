@@ -9,3 +9,6 @@ mod write;
 
 pub use document::Document;
 pub use write::write_document;
+
+#[cfg(test)]
+mod tests;

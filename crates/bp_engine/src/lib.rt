@@ -13,3 +13,6 @@ mod words;
 pub use command::run;
 pub use status::Status;
 pub use words::{Words, one_meaning, words_of};
+
+#[cfg(test)]
+mod tests;
