@@ -1,5 +1,5 @@
 -- The leaves and their lines, up to a node.
-use Rattle.std.proofs.Common.{◌≡◌, ℕ, zero, suc, ◌+◌, ◌-◌, ◌<◌, ◌≤◌, inl, inr, Bool, true, false, not, List, [], ◌∷◌, ◌++◌, length, filter, map, get_or, zip, refl, sym, ap, ◌∙◌, subst, arith, length-append, append_assoc, Result, Ok, Err}
+use Rattle.std.proofs.Common.{◌≡◌, ℕ, zero, suc, ◌+◌, ◌-◌, ◌<◌, ◌≤◌, inl, inr, true, false, not, List, [], ◌∷◌, ◌++◌, length, filter, get_or, zip, refl, sym, ap, ◌∙◌, subst, arith, length-append, append_assoc, Result, Ok, Err}
 use Rattle.std.specs.Prelude.{if◌then◌else◌}
 use Rattle.std.specs.List.{flat_map, range_with_len}
 use Rattle.std.specs.Result.{IsErr}
@@ -8,7 +8,7 @@ use Rattle.std.proofs.lemmas.Bool.{cases_Bool}
 use Rattle.std.proofs.lemmas.List.{append-nil}
 use Rattle.bp_base.specs.declared.point.Point.{Point}
 use Rattle.bp_base.specs.Point.{origin}
-use Rattle.bp_base.specs.Tree.{TreeValue, has_child, leaf_nodes, leaf_count, name_of, node_count}
+use Rattle.bp_base.specs.Tree.{TreeValue, has_child, leaf_count, name_of, node_count}
 use Rattle.bp_base.specs.declared.outside.Failed.{Failed}
 use Rattle.bp_base.specs.Causes.{Appends}
 use Rattle.bp_metric.proofs.Ranges.{filter_range_more}

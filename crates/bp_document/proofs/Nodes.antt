@@ -1,5 +1,5 @@
 -- Node lines and depths of a refutation and its children.
-use Rattle.std.proofs.Common.{◌≡◌, ℕ, zero, suc, ◌+◌, ◌<◌, ◌≤◌, max, List, [], ◌∷◌, ◌++◌, length, get_or, map, refl, sym, ap, ◌∙◌, arith, length-append, subst, Result}
+use Rattle.std.proofs.Common.{◌≡◌, ℕ, zero, suc, ◌+◌, ◌<◌, ◌≤◌, List, [], ◌∷◌, ◌++◌, length, get_or, map, refl, sym, ap, ◌∙◌, arith, length-append, subst, Result}
 use Rattle.std.specs.List.{flat_map}
 use Rattle.std.specs.declared.option.Option.{Option}
 use Rattle.bp_base.specs.declared.outside.Failed.{Failed}
@@ -77,3 +77,7 @@ lines_of r p rs items depth is same =
 -- the lines of a child, as an element of the list
 pub lines_item : {T : Type 0} (a c : Option (List ℕ)) (r : Result T Failed) (depth : ℕ) (child element : Refutation) → child ≡ element → Puts a c r (node_lines child depth) → Puts a c r (lines_at depth element)
 lines_item a c r depth child element is puts = subst (λ (s : Refutation). Puts a c r (node_lines s depth)) is puts
+
+-- a split of two children
+pub depth_of_two : (p : Pair) (rs : List Refutation) (first second : Refutation) → rs ≡ first ∷ second ∷ [] → depth_of (Split p rs) ≤ depth_of first + depth_of second + 1
+depth_of_two p rs first second is = omega (arith, depth-split p rs, ap (λ (l : List Refutation). one_deeper (map depth_of l)) is)

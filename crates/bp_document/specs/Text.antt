@@ -1,5 +1,5 @@
 -- The text of a document, in both its versions.
-use Rattle.std.specs.Prelude.{ℕ, ◌+◌, ◌-◌, List, [], ◌∷◌, ◌++◌, map, decimal, codes, Option, None, Some}
+use Rattle.std.specs.Prelude.{ℕ, ◌+◌, ◌-◌, List, [], ◌∷◌, ◌++◌, decimal, codes, Option, None, Some}
 use Rattle.std.specs.List.{flat_map, zip}
 use Rattle.bp_base.specs.declared.point.Point.{Point}
 use Rattle.bp_base.specs.declared.refutation.Refutation.{Refutation, fold-Refutation}

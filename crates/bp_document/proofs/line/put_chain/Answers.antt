@@ -1,4 +1,4 @@
-use Rattle.std.proofs.Common.{◌≡◌, ℕ, ◌<◌, length, get_or, sym, arith}
+use Rattle.std.proofs.Common.{◌≡◌, ◌<◌, length, get_or, sym, arith}
 use Rattle.std.proofs.lemmas.Option.{get_or_from_slice_get}
 use Rattle.bp_text.proofs.Puts.{loop_more, loop_exit, loop_all, puts_same}
 use Rattle.bp_document.proofs.Words.{spaced, all_spaced, spaced_at}

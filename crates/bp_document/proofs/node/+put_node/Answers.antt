@@ -1,4 +1,4 @@
-use Rattle.std.proofs.Common.{◌≡◌, ◌+◌, ◌<◌, ap, sym, ◌∙◌, arith, List, ℕ, length, get_or}
+use Rattle.std.proofs.Common.{◌≡◌, ◌+◌, ◌<◌, ap, ◌∙◌, arith, List, length, get_or}
 use Rattle.std.specs.List.{flat_map}
 use Rattle.bp_base.specs.declared.refutation.Refutation.{Refutation}
 use Rattle.bp_text.proofs.Bytes.{appends_none}

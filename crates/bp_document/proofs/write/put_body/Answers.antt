@@ -1,4 +1,4 @@
-use Rattle.std.proofs.Common.{◌++◌, [], refl}
+use Rattle.std.proofs.Common.{◌++◌, []}
 use Rattle.std.specs.Prelude.{codes}
 use Rattle.bp_text.proofs.Puts.{puts_first, puts_exit, puts_last, writes_more}
 use Rattle.bp_document.specs.Lines.{line, floor_line}

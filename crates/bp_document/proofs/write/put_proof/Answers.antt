@@ -1,4 +1,4 @@
-use Rattle.std.proofs.Common.{ap, ◌∙◌, refl}
+use Rattle.std.proofs.Common.{ap}
 use Rattle.bp_text.proofs.Puts.{puts_same}
 use Rattle.bp_document.specs.Text.{proof_lines}
 use Rattle.bp_document.proofs.write.put_proof.Goals as goal

@@ -1,4 +1,4 @@
-use Rattle.std.proofs.Common.{◌∷◌, [], append_assoc, sym, refl}
+use Rattle.std.proofs.Common.{◌∷◌, [], append_assoc, refl}
 use Rattle.std.specs.Prelude.{codes, decimal}
 use Rattle.bp_text.proofs.Puts.{puts_exit, puts_last, writes_more}
 use Rattle.bp_document.specs.Lines.{line}
