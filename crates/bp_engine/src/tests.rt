@@ -28,7 +28,13 @@ const NONE: Faults = Faults {
     tell: 0,
 };
 
-fn leave<R: Threads + Sync>(rt: &R, alloc: Global, line: &str, tree: &[u8], faults: Faults) -> Result<Left, Fail> {
+fn leave<R: Threads + Sync>(
+    rt: &R,
+    alloc: Global,
+    line: &str,
+    tree: &[u8],
+    faults: Faults,
+) -> Result<Left, Fail> {
     let mut words = Vec::new(alloc);
     for word in line.split(' ') {
         if !word.is_empty() {
@@ -68,7 +74,11 @@ fn leave<R: Threads + Sync>(rt: &R, alloc: Global, line: &str, tree: &[u8], faul
     })
 }
 
-fn check<R: Abort + Threads + Sync>(rt: &R, alloc: Global, rows: &[(&str, &str, u8, &str, &str)]) -> Result<(), Fail> {
+fn check<R: Abort + Threads + Sync>(
+    rt: &R,
+    alloc: Global,
+    rows: &[(&str, &str, u8, &str, &str)],
+) -> Result<(), Fail> {
     for (line, tree, number, out, err) in rows {
         let left = leave(rt, alloc, line, tree.as_bytes(), NONE)?;
         assert_eq!(rt; left.number, *number, "{line}, {tree}");
@@ -193,27 +203,9 @@ fn refusals(rt: HostRuntime) -> Result<(), Fail> {
             "",
             "tree: line 2: RepeatedName\n",
         ),
-        (
-            "design",
-            "c p\n",
-            1,
-            "",
-            "tree: line 1: WordCount\n",
-        ),
-        (
-            "design",
-            "c p! 1\n",
-            1,
-            "",
-            "tree: line 1: BadName\n",
-        ),
-        (
-            "design",
-            "",
-            1,
-            "",
-            "tree: line 0: Empty\n",
-        ),
+        ("design", "c p\n", 1, "", "tree: line 1: WordCount\n"),
+        ("design", "c p! 1\n", 1, "", "tree: line 1: BadName\n"),
+        ("design", "", 1, "", "tree: line 0: Empty\n"),
         (
             "design",
             "\nc p 1\u{7f}\n",
@@ -305,55 +297,13 @@ fn refusals(rt: HostRuntime) -> Result<(), Fail> {
             "",
             "not built\n",
         ),
-        (
-            "check --tree f",
-            "",
-            8,
-            "",
-            "not built\n",
-        ),
-        (
-            "contours",
-            "",
-            8,
-            "",
-            "not built\n",
-        ),
-        (
-            "rewrite",
-            "",
-            8,
-            "",
-            "not built\n",
-        ),
-        (
-            "pieces",
-            "",
-            8,
-            "",
-            "not built\n",
-        ),
-        (
-            "made 3 1",
-            "",
-            8,
-            "",
-            "not built\n",
-        ),
-        (
-            "trial 3 1",
-            "",
-            8,
-            "",
-            "not built\n",
-        ),
-        (
-            "revise --tree f",
-            "",
-            8,
-            "",
-            "not built\n",
-        ),
+        ("check --tree f", "", 8, "", "not built\n"),
+        ("contours", "", 8, "", "not built\n"),
+        ("rewrite", "", 8, "", "not built\n"),
+        ("pieces", "", 8, "", "not built\n"),
+        ("made 3 1", "", 8, "", "not built\n"),
+        ("trial 3 1", "", 8, "", "not built\n"),
+        ("revise --tree f", "", 8, "", "not built\n"),
     ];
     check(&rt, rt.alloc(), &rows)
 }
@@ -372,7 +322,10 @@ fn full_input_and_one_byte_more(rt: HostRuntime) -> Result<(), Fail> {
     bytes.push(b'#')?;
     let longer = leave(&rt, alloc, "design", &bytes, NONE)?;
     assert_eq!(rt; longer.number, 1);
-    assert_eq!(rt; longer.err.as_slice(), b"tree: line 0: TooLong\n".as_slice());
+    assert_eq!(rt;
+        longer.err.as_slice(),
+        b"tree: line 0: TooLong\n".as_slice()
+    );
     Ok(())
 }
 
@@ -401,7 +354,10 @@ fn stars_of_many_leaves(rt: HostRuntime) -> Result<(), Fail> {
     let tree = star_of(alloc, 33)?;
     let left = leave(&rt, alloc, "design", tree.as_bytes(), NONE)?;
     assert_eq!(rt; left.number, 1);
-    assert_eq!(rt; left.err.as_slice(), b"tree: line 0: TooManyLeaves\n".as_slice());
+    assert_eq!(rt;
+        left.err.as_slice(),
+        b"tree: line 0: TooManyLeaves\n".as_slice()
+    );
     Ok(())
 }
 
