@@ -1,13 +1,11 @@
 -- Two late twins may exchange their points: the placement stays valid, and each class keeps its points.
-use Rattle.std.proofs.Common.{◌≡◌, ◌≢◌, ◌⊎◌, ℕ, zero, suc, ◌+◌, ◌-◌, ◌*◌, ◌<◌, ◌≤◌, Bool, true, false, cond, IsTrue, List, [], ◌∷◌, length, map, filter, refl, sym, ◌∙◌, ap, subst, arith, inl, inr}
+use Rattle.std.proofs.Common.{◌≡◌, ◌≢◌, ℕ, zero, suc, ◌+◌, ◌*◌, ◌≤◌, Bool, cond, List, [], ◌∷◌, filter, refl, sym, ◌∙◌, ap, subst, arith, inl, inr}
 use Rattle.std.specs.List.{range_with_len, sum_by}
 use Rattle.std.proofs.lemmas.Bool.{cases_eq, cases_order, cases_Bool, eq-eqb, ne_eqb}
 use Rattle.std.proofs.lemmas.List.Sums.{sum_by-cons}
-use Rattle.bp_base.specs.declared.path.Pair.{Pair}
 use Rattle.bp_base.specs.declared.point.Point.{Point}
 use Rattle.bp_base.specs.declared.point.Sheet.{Sheet}
 use Rattle.bp_base.specs.Bags.{AreSame}
-use Rattle.bp_base.specs.Path.{IsPairOf}
 use Rattle.bp_base.specs.Tree.{TreeValue, IsTree, IsLeaf, leaf_count, leaf_node}
 use Rattle.bp_base.specs.Point.{point_at, gap}
 use Rattle.bp_base.proofs.Bags.{sum_by-map, sum_by-plus}
@@ -17,8 +15,8 @@ use Rattle.bp_metric.specs.Valid.{Lies, Valid}
 use Rattle.bp_metric.proofs.Distances.{dist_comm}
 use Rattle.bp_metric.proofs.Leaves.{twins_alike}
 use Rattle.bp_metric.proofs.Ranges.{only_at, sum_only_at}
-use Rattle.bp_symmetry.specs.Twins.{IsAfter, IsExchanged, pair_of, late_class, points_of}
-use Rattle.bp_symmetry.proofs.LateTwins.{AreLate, late_parts, late_from, late_sym, late_trans, twins_sym, both_in_class}
+use Rattle.bp_symmetry.specs.Twins.{IsExchanged, pair_of, late_class, points_of}
+use Rattle.bp_symmetry.proofs.LateTwins.{AreLate, both_in_class}
 
 gap_comm : (p r : Point) → gap p r ≡ gap r p
 gap_comm p r = omega arith

@@ -1,7 +1,7 @@
 -- Handing out the points of late twins: one pair after the other is put in order.
-use Rattle.std.proofs.Common.{◌≡◌, ◌≢◌, ◌⊎◌, ℕ, zero, suc, ◌+◌, ◌-◌, ◌*◌, ◌<◌, ◌≤◌, Bool, true, false, IsTrue, List, length, refl, sym, ◌∙◌, ap, subst, arith, inl, inr}
+use Rattle.std.proofs.Common.{◌≡◌, ◌≢◌, ℕ, zero, suc, ◌+◌, ◌-◌, ◌<◌, ◌≤◌, IsTrue, List, length, refl, sym, ◌∙◌, ap, subst, arith, inl, inr}
 use Rattle.std.specs.List.{swap}
-use Rattle.std.proofs.lemmas.Bool.{cases_eq, cases_Bool, cases_lt, false≢true}
+use Rattle.std.proofs.lemmas.Bool.{cases_eq, cases_Bool, false≢true}
 use Rattle.std.proofs.lemmas.List.Edits.{swapped_from_swap, length-swap}
 use Rattle.bp_base.specs.declared.path.Pair.{Pair}
 use Rattle.bp_base.specs.declared.point.Point.{Point}
@@ -110,9 +110,9 @@ module _ (T : TreeValue) (t : IsTree T) (P Q R : List Point) (p : Pair) (k : ℕ
       record {
         each = e.each ∙ h.each;
         early = λ i leaf less.
-          let not_i : i ≢ p.i = λ same. omega (arith, same, less, late.first) in
-          let not_j : i ≢ p.j = λ same. omega (arith, same, less, late.second) in
-          e.others i leaf.0 not_i not_j ∙ h.early i leaf less;
+            let not_i : i ≢ p.i = λ same. omega (arith, same, less, late.first) in
+            let not_j : i ≢ p.j = λ same. omega (arith, same, less, late.second) in
+            e.others i leaf.0 not_i not_j ∙ h.early i leaf less;
         same = λ i leaf w. h.same i leaf w ∙ same_exchange T Q R p.i p.j i i_leaf j_leaf apart late e w;
         keeps = λ G q s v. valid_exchange T t G q s Q (h.keeps G q s v) R p.i p.j i_leaf j_leaf apart late e;
         ordered = ordered_more (earlier_pairs T Q R p.i p.j pair late after e before) (this_pair T Q R p.i p.j pair late after e before);

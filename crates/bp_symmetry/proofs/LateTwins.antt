@@ -1,8 +1,7 @@
 -- Late twins: being one is symmetric and goes through a third leaf; each class of them is one.
-use Rattle.std.proofs.Common.{◌≡◌, ℕ, ◌≤◌, ◌==◌, ◌&&◌, Bool, true, false, IsTrue, refl, sym, ◌∙◌, arith, inl, inr}
+use Rattle.std.proofs.Common.{◌≡◌, ℕ, ◌≤◌, ◌==◌, ◌&&◌, IsTrue, refl, sym, ◌∙◌, inl, inr}
 use Rattle.std.specs.Prelude.{nat_le}
 use Rattle.std.proofs.lemmas.Bool.{and_parts, and_from, leb-true, le-leb, eqb-true, eq-eqb, cases_Bool, false_from_ne_true, false≢true}
-use Rattle.bp_base.specs.declared.path.Pair.{Pair}
 use Rattle.bp_base.specs.Tree.{TreeValue, parent, length_of, leaf_node}
 use Rattle.bp_metric.specs.Choices.{are_twins, are_late_twins}
 use Rattle.bp_symmetry.specs.Twins.{pair_of}

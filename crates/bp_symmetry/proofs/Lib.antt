@@ -7,3 +7,4 @@ pub mod HandOut
 pub mod FirstLeaves
 pub mod SettlingLaw
 pub mod Within
+pub mod OneHanding

@@ -1,7 +1,7 @@
 -- The law of settling: after the moves a placement is valid, and an allowed choice holds for each pair.
-use Rattle.std.proofs.Common.{◌≡◌, ◌⊎◌, ℕ, ◌+◌, ◌-◌, ◌*◌, ◌<◌, ◌≤◌, ◌==◌, Bool, true, false, ◌&&◌, List, [], ◌∷◌, length, get_or, All, IsTrue, refl, sym, ◌∙◌, ap, subst, arith, inl, inr}
+use Rattle.std.proofs.Common.{◌≡◌, ℕ, ◌+◌, ◌-◌, ◌*◌, ◌<◌, ◌≤◌, ◌==◌, true, false, List, [], ◌∷◌, get_or, All, IsTrue, refl, sym, ◌∙◌, ap, subst, arith, inl, inr}
 use Rattle.std.specs.List.{Contains}
-use Rattle.std.proofs.lemmas.Bool.{cases_eq, cases_lt, cases_Bool, and_parts, eqb-true, false≢true}
+use Rattle.std.proofs.lemmas.Bool.{cases_lt, cases_Bool, and_parts, eqb-true}
 use Rattle.std.proofs.lemmas.List.{get_or_default}
 use Rattle.bp_base.specs.declared.path.Choice.{Choice}
 use Rattle.bp_base.specs.declared.path.Choice.TheVariants.{Left, Right, Below, Above}
@@ -9,8 +9,7 @@ use Rattle.bp_base.specs.declared.path.Pair.{Pair}
 use Rattle.bp_base.specs.declared.point.Point.{Point}
 use Rattle.bp_base.specs.declared.point.Sheet.{Sheet}
 use Rattle.bp_base.specs.declared.point.Sheet.TheVariants.{Square, Strip}
-use Rattle.bp_base.specs.Limits.{most_number, most_width}
-use Rattle.bp_base.specs.Path.{IsPairOf}
+use Rattle.bp_base.specs.Limits.{most_number}
 use Rattle.bp_base.specs.Tree.{TreeValue, IsTree, IsLeaf, leaf_count}
 use Rattle.bp_base.specs.Point.{origin, point_at, gap}
 use Rattle.bp_metric.specs.Choices.{Holds, is_pair_of, are_late_twins, allowed_later, allowed}
@@ -19,7 +18,7 @@ use Rattle.bp_metric.specs.Metric.{IsSheet}
 use Rattle.bp_metric.specs.Valid.{Valid}
 use Rattle.bp_pairs.specs.Points.{IsSmallPoint}
 use Rattle.bp_symmetry.specs.Moves.{turned}
-use Rattle.bp_symmetry.specs.Twins.{IsAfter, IsHandedOut, pair_of}
+use Rattle.bp_symmetry.specs.Twins.{IsAfter, pair_of}
 use Rattle.bp_symmetry.specs.Settled.{HasAllowed, EachHasAllowed, AreMoved, IsSettling}
 use Rattle.bp_symmetry.proofs.Turns.{width_of, x_within, y_within, valid_turned}
 use Rattle.bp_symmetry.proofs.Orders.{left_or_below}

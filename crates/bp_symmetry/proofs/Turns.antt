@@ -1,7 +1,7 @@
 -- The moves of the whole sheet keep a placement valid, and put the first leaves where an allowed choice holds for them.
-use Rattle.std.proofs.Common.{◌≡◌, ℕ, ◌+◌, ◌-◌, ◌*◌, ◌<◌, ◌≤◌, max, Bool, true, false, List, length, map, refl, sym, ◌∙◌, ap, subst, arith, inl, inr}
+use Rattle.std.proofs.Common.{◌≡◌, ℕ, ◌-◌, ◌*◌, ◌≤◌, max, List, length, map, sym, ◌∙◌, ap, subst, arith}
 use Rattle.std.specs.Int.{abs_diff}
-use Rattle.std.proofs.lemmas.Bool.{cond_both, ltb-true, ltb-false}
+use Rattle.std.proofs.lemmas.Bool.{cond_both}
 use Rattle.std.proofs.lemmas.List.{length-map, get_or-map}
 use Rattle.bp_base.specs.declared.point.Point.{Point}
 use Rattle.bp_base.specs.declared.point.Sheet.{Sheet}
@@ -34,12 +34,12 @@ module _ (T : TreeValue) (q s : ℕ) where
     each = length-map P f ∙ v.each;
     inside = λ i leaf. subst (Lies G q s) (sym (at_map f P i v.each leaf)) (lies i leaf);
     far = λ i j pair.
-      let i_leaf : IsLeaf T i = (pair.0, omega (arith, pair.1, pair.2)) in
-      let j_leaf : IsLeaf T j = (omega (arith, pair.0, pair.1), pair.2) in
-      let a = at_map f P i v.each i_leaf in
-      let b = at_map f P j v.each j_leaf in
-      let both : gap (point_at (map f P) i) (point_at (map f P) j) ≡ gap (f (point_at P i)) (f (point_at P j)) = λ k. gap (a k) (b k) in
-      subst (λ (g : ℕ). q * leaf_dist T i j ≤ g) (sym (both ∙ same i j i_leaf j_leaf)) (v.far i j pair);
+        let i_leaf : IsLeaf T i = (pair.0, omega (arith, pair.1, pair.2)) in
+        let j_leaf : IsLeaf T j = (omega (arith, pair.0, pair.1), pair.2) in
+        let a = at_map f P i v.each i_leaf in
+        let b = at_map f P j v.each j_leaf in
+        let both : gap (point_at (map f P) i) (point_at (map f P) j) ≡ gap (f (point_at P i)) (f (point_at P j)) = λ k. gap (a k) (b k) in
+        subst (λ (g : ℕ). q * leaf_dist T i j ≤ g) (sym (both ∙ same i j i_leaf j_leaf)) (v.far i j pair);
   }
 
   pub valid_exchanged : (P : List Point) → Valid T Square q s P → Valid T Square q s (exchanged P)

@@ -1,5 +1,5 @@
 -- What the moves of the whole sheet need of a placement, with the points and the sheet as the code has them.
-use Rattle.std.proofs.Common.{◌≡◌, ℕ, ◌*◌, ◌≤◌, List, All, sym, ◌∙◌, subst, arith}
+use Rattle.std.proofs.Common.{◌≡◌, ℕ, ◌≤◌, List, All, sym, ◌∙◌, subst, arith}
 use Rattle.bp_base.specs.declared.point.Point.{Point}
 use Rattle.bp_base.specs.declared.point.Sheet.{Sheet}
 use Rattle.bp_base.specs.declared.point.Sheet.TheVariants.{Square, Strip}

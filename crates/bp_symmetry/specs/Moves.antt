@@ -1,5 +1,5 @@
 -- The moves that settle a placement, as functions on lists of points, on a grid q times finer. They keep a placement valid at its side.
-use Rattle.std.specs.Prelude.{ℕ, ◌+◌, ◌-◌, ◌*◌, List, map, Bool, not, ◌&&◌, ◌||◌, nat_le, nat_lt, if◌then◌else◌}
+use Rattle.std.specs.Prelude.{ℕ, ◌+◌, ◌-◌, ◌*◌, List, map, Bool, not, ◌&&◌, nat_le, nat_lt, if◌then◌else◌}
 use Rattle.std.specs.Int.{abs_diff}
 use Rattle.bp_base.specs.declared.point.Point.{Point}
 use Rattle.bp_base.specs.declared.point.Sheet.{Sheet}

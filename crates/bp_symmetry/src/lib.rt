@@ -8,5 +8,8 @@ mod settling;
 mod turn;
 mod twins;
 
-pub use laws::law_of_settling;
+pub use laws::{law_of_settling, one_settling};
 pub use settling::settle;
+
+#[cfg(test)]
+mod tests;

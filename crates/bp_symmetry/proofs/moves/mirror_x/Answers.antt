@@ -1,4 +1,4 @@
-use Rattle.std.proofs.Common.{length, arith}
+use Rattle.std.proofs.Common.{arith}
 use Rattle.bp_symmetry.specs.Moves.{mirrored_x_point}
 use Rattle.bp_symmetry.proofs.Maps.{map_next}
 use Rattle.bp_symmetry.proofs.moves.mirror_x.Goals as goal
