@@ -1,7 +1,8 @@
 // Settling a placement.
-ghost use Rattle.std.specs.Prelude.{◌≤◌};
+ghost use Rattle.std.specs.Prelude.{◌≤◌, All};
 ghost use Rattle.bp_base.specs.Limits.{most_number};
 ghost use Rattle.bp_metric.specs.Valid.{Valid};
+ghost use Rattle.bp_pairs.specs.Points.{IsSmallPoint};
 ghost use Rattle.bp_symmetry.specs.Settled.{AreMoved, EachHasAllowed};
 
 use crate::turn::turn;
@@ -20,6 +21,7 @@ pub fn settle(metric: &Metric, side: u64, points: &mut [Point])
     requires valid { Valid metric.now.tree metric.now.sheet 1 side points.old }
     ensures valid { Valid metric.now.tree metric.now.sheet 1 side points.new }
     ensures allowed { EachHasAllowed metric.now.tree metric.now.sheet 1 points.new }
+    ensures small { All IsSmallPoint points.new }
     ensures moves { AreMoved metric.now.tree metric.now.sheet 1 side points.old points.new }
 {
     turn(metric, side, points);

@@ -17,6 +17,7 @@ pub fn hand_out(metric: &Metric, points: &mut [Point])
     requires points { length points.old ≡ leaf_count metric.now.tree }
     requires small { All IsSmallPoint points.old }
     ensures handed { IsHandedOut metric.now.tree points.old points.new }
+    ensures small { All IsSmallPoint points.new }
     ensures valid { (G : AnySheet) (q s : ℕ) → Valid metric.now.tree G q s points.old → Valid metric.now.tree G q s points.new }
 {
     let count = metric.leaves();
