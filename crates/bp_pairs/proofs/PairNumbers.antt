@@ -1,6 +1,6 @@
 -- Numbers of pairs rise in the order of pairs.
-use Rattle.std.proofs.Common.{◌≡◌, ◌⊎◌, inl, inr, ℕ, zero, suc, ◌+◌, ◌-◌, ◌*◌, ◌/◌, ◌<◌, ◌≤◌, ◌↔◌, refl, sym, ◌∙◌, ap, arith}
-use Rattle.std.proofs.lemmas.Bool.{cases_eq, cases_order}
+use Rattle.std.proofs.Common.{◌≡◌, ◌⊎◌, inl, inr, ℕ, zero, suc, ◌+◌, ◌-◌, ◌*◌, ◌/◌, ◌<◌, ◌≤◌, ◌↔◌, sym, ap, arith}
+use Rattle.std.proofs.lemmas.Bool.{cases_eq, cases_lt, cases_order}
 use Rattle.bp_base.specs.declared.path.Pair.{Pair}
 use Rattle.bp_base.specs.Path.{IsPairOf}
 use Rattle.bp_metric.specs.Next.{IsEarlier}
@@ -107,3 +107,14 @@ row_pair n number i left row less = (row.from, omega arith, omega (arith, row.to
 
 pub row_number : (n number i left : ℕ) → IsRow n number i left → pair_number n (record { i = i; j = i + 1 + left }) ≡ number
 row_number n number i left row = omega (arith, row.is)
+
+find_pair : (steps n number i left : ℕ) → number < pair_count n → IsRow n number i left → n - i ≤ steps → (p : Pair) × IsPairOf n p × (pair_number n p ≡ number)
+find_pair zero n number i left below row few = absurd (omega (arith, row.to, few))
+find_pair (suc steps) n number i left below row few = elim (cases_lt left (n - i)) [
+  | inl less ↦ (record { i = i; j = i + 1 + left }, row_pair n number i left row less, row_number n number i left row)
+  | inr more ↦ find_pair steps n number (i + 1) (left - (n - i)) below (next_row_is n number i left below row more) (omega (arith, few))
+]
+
+-- each number below the count is that of a pair
+pub pair_of_number : (n number : ℕ) → number < pair_count n → (p : Pair) × IsPairOf n p × (pair_number n p ≡ number)
+pair_of_number n number below = find_pair (n - 1) n number 1 number below (first_row n number below) (omega arith)

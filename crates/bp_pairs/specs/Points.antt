@@ -1,5 +1,5 @@
 -- Points whose coordinates are numbers of a document.
-use Rattle.std.specs.Prelude.{ℕ, ◌≤◌}
+use Rattle.std.specs.Prelude.{◌≤◌}
 use Rattle.bp_base.specs.declared.point.Point.{Point}
 use Rattle.bp_base.specs.Limits.{most_number}
 

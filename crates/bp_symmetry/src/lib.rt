@@ -1,0 +1,15 @@
+//! Settling: every valid placement can be turned, mirrored and sorted into one in which an allowed choice holds for each pair.
+//! No call takes memory.
+#![tactic(auto)]
+
+mod laws;
+mod moves;
+mod settling;
+mod turn;
+mod twins;
+
+pub use laws::{law_of_settling, one_settling};
+pub use settling::settle;
+
+#[cfg(test)]
+mod tests;
