@@ -4,6 +4,7 @@
 mod edge;
 mod fault;
 mod grower;
+mod json;
 mod leaves;
 mod reading;
 mod words;
