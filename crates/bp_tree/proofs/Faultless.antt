@@ -9,7 +9,7 @@ use Rattle.bp_tree.specs.declared.fault.TreeKind.{TreeKind}
 use Rattle.bp_tree.specs.declared.fault.TreeKind.TheVariants.{TooLong, BadJson, BadShape, BadByte, WordCount, BadName, BadLength, UnknownParent, RepeatedName, TooManyNodes, Empty, RootIsLeaf, TooManyLeaves}
 use Rattle.bp_tree.specs.Lines.{content, words_of, rows, word}
 use Rattle.bp_tree.specs.Edges.{HasEdges, IsGrowing, IsLength, edge_words, uppers, lowers, lengths}
-use Rattle.bp_tree.specs.Faults.{HasKind, HasFault, IsElementKind, IsFirstElementFault, LacksUpper, RepeatsLower, IsFull, line_at, names_of, HasElementKind, HasElementFault, names_made, element_at}
+use Rattle.bp_tree.specs.Faults.{HasKind, HasFault, IsElementKind, IsFirstElementFault, LacksUpper, RepeatsLower, IsFull, line_at, names_of, HasElementKind, HasElementFault, element_at}
 use Rattle.bp_tree.specs.Growing.{GrewFrom}
 use Rattle.bp_tree.proofs.Rows.{rows_append, rows_cons, names_edges, Parted, parted}
 use Rattle.bp_tree.proofs.TextBytes.{text_bytes}

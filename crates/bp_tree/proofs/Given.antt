@@ -1,10 +1,10 @@
 -- The edges that bytes give, in either form.
-use Rattle.std.proofs.Common.{◌≡◌, ℕ, ◌≤◌, Bool, true, false, List, [], ◌∷◌, length, take, map, refl, sym, ◌∙◌, ap, subst, arith}
+use Rattle.std.proofs.Common.{◌≡◌, ℕ, Bool, true, false, List, [], length, take, sym, ◌∙◌, ap, subst, arith}
 use Rattle.std.proofs.lemmas.List.{length-map, take_all}
 use Rattle.bp_base.specs.Tree.{TreeValue}
 use Rattle.bp_tree.specs.declared.edge.Edge.{Edge}
 use Rattle.bp_tree.specs.declared.fault.TreeKind.{TreeKind}
-use Rattle.bp_tree.specs.Lines.{lines_of, rows}
+use Rattle.bp_tree.specs.Lines.{lines_of}
 use Rattle.bp_tree.specs.Edges.{HasEdges, IsGrowing, edge_words}
 use Rattle.bp_tree.specs.Text.{GivesIn}
 use Rattle.bp_tree.specs.Faults.{HasFaultIn, IsFirstIn}

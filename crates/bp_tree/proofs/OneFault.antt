@@ -15,7 +15,7 @@ use Rattle.bp_tree.specs.Edges.{HasEdges, root_children}
 use Rattle.bp_tree.specs.Json.{is_json}
 use Rattle.bp_tree.specs.Text.{GivesIn, GivesEdges}
 use Rattle.bp_tree.specs.Faults.{HasKind, HasElementKind, IsRow, IsFirstFault, IsFirstElementFault, IsFirstIn, IsTreeFault, FaultIn, Makes, ReadsTree, IsOnlyAnswer, order}
-use Rattle.bp_tree.specs.Growing.{ReadsEdges}
+use Rattle.bp_tree.specs.Reading.{ReadsEdges}
 use Rattle.bp_tree.proofs.Growth.{edge_count}
 use Rattle.bp_tree.proofs.Rows.{rows_append, rows_cons}
 use Rattle.bp_tree.proofs.OneTree.{same_tree}

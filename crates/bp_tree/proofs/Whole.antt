@@ -11,7 +11,8 @@ use Rattle.bp_tree.specs.Edges.{HasEdges, IsGrowing, root_children}
 use Rattle.bp_tree.specs.Text.{GivesEdges, TreeOf}
 use Rattle.bp_tree.specs.Json.{is_json}
 use Rattle.bp_tree.specs.Faults.{IsFirstIn, Makes, FaultIn, IsTreeFault, IsNoTree}
-use Rattle.bp_tree.specs.Growing.{ReadsEdges, Finishes}
+use Rattle.bp_tree.specs.Growing.{Finishes}
+use Rattle.bp_tree.specs.Reading.{ReadsEdges}
 use Rattle.bp_tree.proofs.Growth.{edge_count}
 use Rattle.bp_tree.proofs.TwoLeaves.{growing_tree}
 use Rattle.bp_tree.proofs.OneTree.{same_tree}

@@ -153,7 +153,7 @@ FaultIn bytes n kind = (length bytes ≤ most_tree_bytes) × IsFirstIn (is_json 
 abbrev pub IsTreeFault : List ℕ → TreeFault → Type 0
 IsTreeFault bytes f = FaultIn bytes f.line f.kind
 
--- the bytes are a text of no tree
+-- the bytes are those of no tree
 abbrev pub IsNoTree : List ℕ → Type 0
 IsNoTree bytes = (T : TreeValue) → TreeOf bytes T → ⊥
 

@@ -19,7 +19,7 @@ is_json (b ∷ bs) = if is_space b then is_json bs else b == 123
 unfoldable pub IsValue : List ℕ → Data → Type 0
 IsValue bytes d = IsUtf8 bytes × (read bytes ≡ Some d)
 
--- An edge's element: a list of two texts, which needn't be names, and an unsigned number of 64 bits, which needn't be a length.
+-- An edge's element: a list of two texts, which needn't be names, and a number that `as_u64` gives, which needn't be a length.
 abbrev pub element : Edge → Data
 element e = array (item (string e.upper) (item (string e.lower) (item (number (unsigned e.length)) no_items)))
 

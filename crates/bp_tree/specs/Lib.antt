@@ -4,3 +4,4 @@ pub mod Json
 pub mod Text
 pub mod Faults
 pub mod Growing
+pub mod Reading

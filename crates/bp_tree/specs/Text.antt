@@ -17,7 +17,7 @@ GivesIn false bytes es = rows (lines_of bytes) ≡ map edge_words es
 abbrev pub GivesEdges : List ℕ → List Edge → Type 0
 GivesEdges bytes es = GivesIn (is_json bytes) bytes es
 
--- the bytes are a text of T
+-- the bytes are those of T, in lines or in the JSON form
 pub record TreeOf (bytes : List ℕ) (T : TreeValue) : Type 0 where
   pub short : length bytes ≤ most_tree_bytes
   pub tree : IsTree T

@@ -1,5 +1,5 @@
 ghost use Rattle.std.specs.Prelude.{◌≡◌};
-ghost use Rattle.bp_tree.specs.Growing.{of_whole};
+ghost use Rattle.bp_tree.specs.Reading.{of_whole};
 
 use thiserror::Error;
 

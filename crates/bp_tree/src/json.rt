@@ -3,7 +3,8 @@ ghost use Rattle.std.specs.Prelude.{◌≡◌, true, map};
 ghost use Rattle.serde_json.specs.View.{view};
 ghost use Rattle.bp_tree.specs.Edges.{IsGrowing, IsLength};
 ghost use Rattle.bp_tree.specs.Json.{is_json, is_space};
-ghost use Rattle.bp_tree.specs.Growing.{AddsElement, AddsElements, HasList, JudgesElement, ReadsEdges, ReadsElement, ReadsElements, ReadsValue, edge_of, no_nodes};
+ghost use Rattle.bp_tree.specs.Growing.{AddsElement, AddsElements, JudgesElement, no_nodes};
+ghost use Rattle.bp_tree.specs.Reading.{HasList, ReadsEdges, ReadsElement, ReadsElements, ReadsValue, edge_of};
 
 use crate::fault::of_the_whole;
 use crate::{Edge, Grower, ReadTree, TreeFault, TreeKind};
@@ -112,7 +113,10 @@ fn add_elements(grower: &mut Grower, elements: &[Element<'_>]) -> Result<(), Tre
 {
     for (at, element) in elements.iter().enumerate() {
         if let Err(kind) = add_element(grower, element) {
-            return Err(TreeFault { line: at as u64 + 1, kind });
+            return Err(TreeFault {
+                line: at as u64 + 1,
+                kind,
+            });
         }
     }
     Ok(())

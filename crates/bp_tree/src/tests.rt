@@ -99,7 +99,10 @@ fn faults_of_the_json_form_are_the_first(rt: HostRuntime) -> Result<(), Fail> {
         (r#"{"edges":[["c","p",01],["c","q",1]]}"#, json),
         (r#"{"edges":[["c","p",1],["c","q",1]],"a":1e999}"#, json),
         (r#"{"edges":[]}"#, Some((0, TreeKind::Empty))),
-        (r#"{"edges":[["c","p",1]]}"#, Some((0, TreeKind::RootIsLeaf))),
+        (
+            r#"{"edges":[["c","p",1]]}"#,
+            Some((0, TreeKind::RootIsLeaf)),
+        ),
         (
             r#"{"edges":[["c","p",1],["c","q r",0]]}"#,
             Some((2, TreeKind::BadName)),
@@ -175,7 +178,11 @@ fn limits_of_a_tree(rt: HostRuntime) -> Result<(), Fail> {
         let text = star(rt.alloc(), leaves)?;
         assert_eq!(rt; fault_of(rt.alloc(), &text)?, want, "{leaves} leaves");
         let text = json_star(rt.alloc(), leaves)?;
-        assert_eq!(rt; fault_of(rt.alloc(), &text)?, want, "{leaves} leaves in JSON");
+        assert_eq!(rt;
+            fault_of(rt.alloc(), &text)?,
+            want,
+            "{leaves} leaves in JSON"
+        );
     }
     let mut full = star(rt.alloc(), 4)?;
     full.push(b'#')?;

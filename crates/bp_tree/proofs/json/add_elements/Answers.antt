@@ -1,6 +1,6 @@
 use Rattle.std.proofs.Common.{◌+◌, map, sym, subst, refl, arith}
 use Rattle.std.proofs.lemmas.List.{length-map, get_or-map, take-map}
-use Rattle.bp_tree.specs.Growing.{edge_of}
+use Rattle.bp_tree.specs.Reading.{edge_of}
 use Rattle.bp_tree.specs.Edges.{HasEdges}
 use Rattle.bp_tree.proofs.Faultless.{first_element_fault}
 use Rattle.bp_tree.proofs.json.add_elements.Goals as goal

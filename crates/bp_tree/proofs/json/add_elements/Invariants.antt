@@ -1,6 +1,6 @@
 use Rattle.std.proofs.Common.{map, take}
 use Rattle.bp_tree.specs.Edges.{HasEdges, IsGrowing}
-use Rattle.bp_tree.specs.Growing.{edge_of}
+use Rattle.bp_tree.specs.Reading.{edge_of}
 use Rattle.bp_tree.proofs.json.add_elements.Given as goal
 
 abbrev pub invariant-loop-at : goal.invariant-loop-at

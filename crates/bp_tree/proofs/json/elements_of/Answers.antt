@@ -2,7 +2,7 @@ use Rattle.std.proofs.Common.{refl, map, ap, sym, ◌∙◌, List, arith}
 use Rattle.std.proofs.lemmas.List.{take_all}
 use Rattle.serde_json.specs.View.{view}
 use Rattle.serde_json.specs.declared.value.Value.{Value}
-use Rattle.bp_tree.specs.Growing.{edge_of}
+use Rattle.bp_tree.specs.Reading.{edge_of}
 use Rattle.bp_tree.proofs.JsonForm.{are_elements, no_elements}
 use Rattle.bp_tree.proofs.json.elements_of.Goals as goal
 

@@ -1,7 +1,7 @@
 use Rattle.std.proofs.Common.{◌≡◌, ◌≤◌, map, take, length, vec_capacity}
 use Rattle.serde_json.specs.View.{view}
 use Rattle.bp_tree.specs.Json.{element}
-use Rattle.bp_tree.specs.Growing.{edge_of}
+use Rattle.bp_tree.specs.Reading.{edge_of}
 use Rattle.bp_tree.proofs.json.elements_of.Given as goal
 
 abbrev pub invariant-loop-item : goal.invariant-loop-item
