@@ -1,0 +1,4 @@
+mod Entries
+mod Sides
+mod Draws
+mod Halts

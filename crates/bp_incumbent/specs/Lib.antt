@@ -1,0 +1,4 @@
+pub mod Entries
+pub mod Side
+pub mod Tickets
+pub mod Halt
