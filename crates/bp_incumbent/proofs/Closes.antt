@@ -1,7 +1,9 @@
 -- What the seats of all passes tell of the passes.
-use Rattle.std.proofs.Common.{◌≡◌, ℕ, zero, suc, ◌+◌, ◌<◌, ◌≤◌, ◌==◌, ◌⊎◌, Bool, true, false, List, [], ◌∷◌, map, length, All, sym, refl, ap, ◌∙◌, subst, inl, inr, ⊎_elim, arith}
+use Rattle.std.proofs.Common.{◌≡◌, ℕ, zero, suc, ◌+◌, ◌<◌, ◌≤◌, ◌==◌, ◌⊎◌, Bool, true, false, List, [], ◌∷◌, ◌++◌, map, length, All, sym, refl, ap, ◌∙◌, subst, inl, inr, ⊎_elim, arith}
 use Rattle.std.specs.List.{sum_by, flat_map, Contains, Any, range_with_len}
 use Rattle.std.proofs.lemmas.Bool.Decides.{nat_tests}
+use Rattle.std.proofs.lemmas.List.Concat.{flat_map-cons}
+use Rattle.std.proofs.lemmas.List.Elements.{All-contains, All-contains_itself, Contains-append_left, Contains-append_right}
 use Rattle.std.proofs.lemmas.List.Sums.{sum_by-cons}
 use Rattle.bp_base.specs.Bags.{AreSame}
 use Rattle.bp_base.proofs.Bags.{sum_by-flat_map, same-map, moved, all_moved}
@@ -34,6 +36,22 @@ known_moved : (o : ℕ) (xs ys seen shown : List ℕ) → AreSame xs ys → AreS
 known_moved o xs ys seen shown same same_seen known = all_moved (λ x y. x == y) itself equal (IsKnown o ys) seen shown same_seen
     (λ k d lt. ⊎_elim inl (λ c. inr (moved (λ x y. x == y) itself equal xs ys _ same c)) (known k d lt))
 
+-- what holds of all sides that passes have seen holds of those of each pass
+each_of : (P : ℕ → Type 0) (ps : List PassView) → All P (flat_map (λ (p : PassView). p.seen) ps) → All (λ (p : PassView). All P p.seen) ps
+each_of P (p ∷ ps) every zero d lt = front P p.seen (flat_map (λ (p : PassView). p.seen) ps) (subst (All P) (flat_map-cons (λ (p : PassView). p.seen) p ps) every)
+  where
+    front : (P : ℕ → Type 0) (xs ys : List ℕ) → All P (xs ++ ys) → All P xs
+    front P xs ys every i d lt = All-contains P (xs ++ ys) _ every (Contains-append_left xs ys _ (All-contains_itself xs i d lt))
+each_of P (p ∷ ps) every (suc k) d lt = each_of P ps (back P p.seen (flat_map (λ (p : PassView). p.seen) ps) (subst (All P) (flat_map-cons (λ (p : PassView). p.seen) p ps) every)) k d (omega arith)
+  where
+    back : (P : ℕ → Type 0) (xs ys : List ℕ) → All P (xs ++ ys) → All P ys
+    back P xs ys every i d lt = All-contains P (xs ++ ys) _ every (Contains-append_right xs ys _ (All-contains_itself ys i d lt))
+each_of P [] every k d lt = absurd (omega arith)
+
+-- no side that is known is below the least
+pub lowest : (n o : ℕ) (offers : List ℕ) (ps : List PassView) → IsLeast n o offers → All (λ (p : PassView). All (IsKnown o offers) p.seen) ps → All (λ (p : PassView). All (λ y. n ≤ y) p.seen) ps
+lowest n o offers ps least known k d lt i e less = ⊎_elim (λ is. omega (arith, least.below_opening, is)) (λ c. All-contains (λ y. n ≤ y) offers _ least.below_offers c) (known k d lt i e less)
+
 -- an element that passes the test
 found : {X : Type 0} (test : X → Bool) (xs : List X) → 0 < sum_by (λ x. flag (test x)) xs → Any (λ x. test x ≡ true) xs
 found test [] more = absurd (omega arith)
@@ -59,8 +77,8 @@ module _ (s : Seats) (all : List PassView) (had : HasTaken s [] all) where
   pub least : (side opening : ℕ) → IsLeast side opening (offers_of s.side.me.0) → IsLeast side opening (flat_map (λ (p : PassView). p.offers) all)
   least side opening is = least_moved side opening _ _ offers_same is
 
-  pub known : (opening : ℕ) → All (IsKnown opening (offers_of s.side.me.0)) s.side.me.0.seen → All (IsKnown opening (flat_map (λ (p : PassView). p.offers) all)) (flat_map (λ (p : PassView). p.seen) all)
-  known opening is = known_moved opening _ _ _ _ offers_same seen_same is
+  pub known : (opening : ℕ) → All (IsKnown opening (offers_of s.side.me.0)) s.side.me.0.seen → All (λ (p : PassView). All (IsKnown opening (flat_map (λ (p : PassView). p.offers) all)) p.seen) all
+  known opening is = each_of (IsKnown opening (flat_map (λ (p : PassView). p.offers) all)) all (known_moved opening _ _ _ _ offers_same seen_same is)
 
   pub once : (n : ℕ) → AreSame (map (λ (t : Ticket). t.number) (tickets_of s.tickets.me.0)) (range_with_len 0 n) → AreSame (map (λ (t : Ticket). t.number) (flat_map (λ (p : PassView). p.tickets) all)) (range_with_len 0 n)
   once n is h = let number : Ticket → ℕ = λ (t : Ticket). t.number in

@@ -93,13 +93,5 @@ with_halt p q change same was number kept drawn last slot passes =
 pub all_of : (P : Ticket → Type 0) (v : TicketView) (d : Drawn) → v.passes ≡ d ∷ [] → All (λ (p : Drawn). All P p.tickets) v.passes → All P (tickets_of v)
 all_of P v d is all = subst (All P) (sym (of_one v d is)) (subst (λ (l : List Drawn). All (λ (p : Drawn). All P p.tickets) l) is all 0 d (omega arith))
 
--- a pass is spent where its last ticket is at or above the limit
-pub spent_after : (limit n carried : ℕ) (ts us : List Ticket) → us ≡ ts ++ ticket n carried ∷ [] → (is_spent limit us ≡ true) ↔ (limit ≤ n)
-spent_after limit n carried ts us is = let e : is_spent limit us ≡ leb limit n = ap (is_spent limit) is ∙ spent_last limit ts (ticket n carried) in
-    ((λ spent. above limit n (sym e ∙ spent)), (λ le. e ∙ at limit n le))
-  where
-    above : (limit n : ℕ) → leb limit n ≡ true → limit ≤ n
-    above limit n e = grind (arith, nat_tests)
-
-    at : (limit n : ℕ) → limit ≤ n → leb limit n ≡ true
-    at limit n le = grind (arith, nat_tests)
+pub spent_after : (limit n carried : ℕ) (ts us : List Ticket) → us ≡ ts ++ ticket n carried ∷ [] → is_spent limit us ≡ leb limit n
+spent_after limit n carried ts us is = ap (is_spent limit) is ∙ spent_last limit ts (ticket n carried)

@@ -1,5 +1,5 @@
 //! The board and its calls. None of them waits for another.
-ghost use Rattle.std.specs.Prelude.{◌≡◌, ℕ, ◌+◌, ◌-◌, ◌<◌, ◌≤◌, true, false, ◌↔◌, [], ◌++◌, map, length, All, IfOk, slice_index_or};
+ghost use Rattle.std.specs.Prelude.{◌≡◌, ℕ, ◌+◌, ◌-◌, ◌<◌, ◌≤◌, true, false, leb, [], ◌++◌, map, length, All, IfOk, slice_index_or};
 ghost use Rattle.std.specs.List.{flat_map, Contains, Any, range_with_len};
 ghost use Rattle.bp_base.specs.Bags.{AreSame};
 ghost use Rattle.bp_base.specs.Limits.{most_number, most_budget, most_hands};
@@ -126,7 +126,7 @@ impl Board {
         requires fresh { pass.old.fresh ≡ true }
         ensures rises { All (λ t. t.number < result) pass.old.tickets }
         ensures seen { Contains pass.old.seen pass.old.last }
-        ensures spent { (is_spent self.now.limit pass.new.tickets ≡ true) ↔ (self.now.limit ≤ result) }
+        ensures spent { is_spent self.now.limit pass.new.tickets ≡ leb self.now.limit result }
         ensures pass { pass.new ≡ drew pass.old result }
     {
         let ticket = TicketRule::draw(&self.tickets.shared, &mut pass.seats.tickets, pass.last);
@@ -173,12 +173,13 @@ impl Board {
         SideRule::load(&self.side.shared, &mut pass.seats.side)
     }
 
-    /// Ends the board, once all its passes are back. The side is the least of the opening side and all offers, and the tickets are the numbers below `tickets`, each once. Each side that a pass has seen is the opening side or was offered, and halt was read as set only where some pass has halted.
+    /// Ends the board, once all its passes are back. The side is the least of the opening side and all offers, and the tickets are the numbers below `tickets`, each once. Each side that a pass has seen is the opening side or was offered, so none is below the last side, and halt was read as set only where some pass has halted.
     pub fn close(self, alloc: Global, passes: Vec<Pass>) -> Result<Closing, NoMemory>
         requires { All (λ p. p.board ≡ self.id) passes.items × (length passes.items ≡ self.passes) }
         ensures side { IfOk result (λ c. IsLeast c.side self.opening (flat_map (λ p. p.offers) passes.items)) }
         ensures tickets { IfOk result (λ c. AreSame (map (λ t. t.number) (flat_map (λ p. p.tickets) passes.items)) (range_with_len 0 c.tickets)) }
-        ensures seen { IfOk result (λ _. All (IsKnown self.opening (flat_map (λ p. p.offers) passes.items)) (flat_map (λ p. p.seen) passes.items)) }
+        ensures seen { IfOk result (λ _. All (λ p. All (IsKnown self.opening (flat_map (λ p. p.offers) passes.items)) p.seen) passes.items) }
+        ensures none_below { IfOk result (λ c. All (λ p. All (λ y. c.side ≤ y) p.seen) passes.items) }
         ensures carried { IfOk result (λ _. All IsCarried passes.items) }
         ensures halt { IfOk result (λ _. Any (λ p. p.halt_read ≡ true) passes.items → Any (λ p. p.halted ≡ true) passes.items) }
     {
@@ -211,4 +212,16 @@ fn gather(board: &Board, mut passes: Vec<Pass>) -> Seats
         seats.join(board, other);
     }
     seats
+}
+
+fn moves<T: Send>(_: &T) {}
+
+fn shares<T: Sync>(_: &T) {}
+
+// A pass and a note may go to another thread, and a board may be shared by threads.
+fn crosses(board: &Board, pass: &Pass, note: &Note) {
+    shares(board);
+    moves(board);
+    moves(pass);
+    moves(note);
 }

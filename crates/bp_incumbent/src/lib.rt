@@ -11,3 +11,6 @@ mod tickets;
 pub use board::{Board, Closing};
 pub use pass::{Note, Pass};
 pub use tickets::Ticket;
+
+#[cfg(test)]
+mod tests;
