@@ -1,12 +1,12 @@
 -- Each step on the tickets table keeps its rule, and what the tickets then are.
-use Rattle.std.proofs.Common.{◌≡◌, ◌≢◌, ℕ, zero, suc, ◌+◌, ◌%◌, ◌<◌, ◌≤◌, ◌⊎◌, Bool, true, false, leb, List, [], ◌∷◌, ◌++◌, map, length, set, slice_set, slice_index, get_or, All, sym, refl, ap, ◌∙◌, subst, ⊎_elim, arith}
+use Rattle.std.proofs.Common.{◌≡◌, ◌≢◌, ℕ, zero, suc, ◌+◌, ◌%◌, ◌<◌, ◌≤◌, Bool, true, false, leb, List, [], ◌∷◌, ◌++◌, map, length, set, slice_set, slice_index, get_or, All, sym, refl, ap, ◌∙◌, subst, ⊎_elim, arith}
 use Rattle.std.specs.List.{sum_by, range_with_len}
 use Rattle.std.proofs.lemmas.Bool.Decides.{nat_tests}
 use Rattle.std.proofs.lemmas.List.Sums.{sum_by-cons, sum_by-append, sum_by_push}
 use Rattle.std.proofs.lemmas.List.Elements.{All-append, All-take, All-drop}
 use mathlib.Core.Option.{some, some-injective, some-ne-none}
 use lib.ListN.{get_elem?}
-use Rattle.atomic_table.specs.Table.{State, Me, Allows, Splits, Joins, keeps, Final, Seen}
+use Rattle.atomic_table.specs.Table.{Me, Allows, Splits, Joins, keeps, Final, Seen}
 use Rattle.atomic_table.proofs.Lists.{at_set, at_snoc}
 use Rattle.bp_base.specs.Bags.{AreSame}
 use Rattle.bp_base.specs.Limits.{most_budget, most_hands}
@@ -16,7 +16,7 @@ use Rattle.bp_incumbent.specs.declared.tickets.TicketKey.{TicketKey}
 use Rattle.bp_incumbent.specs.declared.tickets.Ticket.{Ticket}
 use Rattle.bp_incumbent.specs.declared.tickets.Drawn.{Drawn}
 use Rattle.bp_incumbent.specs.declared.tickets.TicketView.{TicketView}
-use Rattle.bp_incumbent.specs.Tickets.{is_spent, IsRising, AllRising, all_numbers, weight_of, all_tickets, all_spent, IsKept, TicketHolds, drawn, ticket, ticket_view, undrawn, dealt_rest, dealt_one, both, none, tickets_of, one_more, with_ticket, NamesUnspent, IsAbove, Drew}
+use Rattle.bp_incumbent.specs.Tickets.{is_spent, IsRising, AllRising, weight_of, all_spent, IsKept, TicketHolds, drawn, ticket, ticket_view, undrawn, dealt_rest, dealt_one, both, none, tickets_of, one_more, with_ticket, NamesUnspent, IsAbove, Drew}
 use Rattle.bp_incumbent.proofs.Entries.{cut, only, only_changed, unchanged, part_le, new_numbers, new_none, all_here, ones_up_to, below_more, none_at_end}
 
 -- What a view adds to each sum.

@@ -8,7 +8,7 @@ use mathlib.Core.Option.{some, some-injective, some-ne-none}
 use mathlib.Core.Logic.{dite}
 use native.Mathlib.Decide.{ℕ_discrete, dec_le}
 use lib.ListN.{get_elem?}
-use Rattle.bp_base.proofs.Bags.{total_at, sum_by-map}
+use Rattle.bp_base.proofs.Bags.{total_at}
 use Rattle.bp_incumbent.specs.Entries.{one_at, times, flag, at_first, numbered}
 
 -- Entries of one view.

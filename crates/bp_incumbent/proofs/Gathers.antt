@@ -1,19 +1,15 @@
 -- How `open` deals passes out, and how `close` takes them in.
-use Rattle.std.proofs.Common.{◌≡◌, ℕ, zero, suc, ◌+◌, ◌<◌, ◌≤◌, ◌⊎◌, Bool, true, false, List, [], ◌∷◌, ◌++◌, map, length, get_or, All, sym, refl, ap, ◌∙◌, subst, inl, inr, ⊎_elim, arith, length-append}
-use Rattle.std.specs.List.{sum_by, flat_map, Contains, Any, list_any}
+use Rattle.std.proofs.Common.{◌≡◌, ℕ, zero, suc, ◌+◌, ◌<◌, List, [], ◌∷◌, ◌++◌, length, get_or, All, sym, refl, ap, ◌∙◌, subst, arith, length-append}
+use Rattle.std.specs.List.{sum_by}
 use Rattle.std.proofs.lemmas.Grind.{flat_map-append}
-use Rattle.std.proofs.lemmas.List.Folds.{Any-from_list_any}
 use Rattle.std.proofs.lemmas.List.Sums.{sum_by-append, sum_by_push}
 use Rattle.std.proofs.lemmas.List.Elements.{All-append}
 use mathlib.Core.Logic.{dite}
 use native.Mathlib.Decide.{ℕ_discrete}
-use Rattle.bp_base.specs.Bags.{AreSame}
-use Rattle.bp_base.proofs.Bags.{sum_by-flat_map}
-use Rattle.bp_incumbent.specs.Entries.{flag, one_at, times}
+use Rattle.bp_incumbent.specs.Entries.{flag}
 use Rattle.bp_incumbent.specs.declared.pass.Pass.TheInside.{Inside}
 use Rattle.bp_incumbent.specs.declared.seats.Seats.{Seats}
 use Rattle.bp_incumbent.specs.declared.side.Offers.{Offers}
-use Rattle.bp_incumbent.specs.declared.tickets.Ticket.{Ticket}
 use Rattle.bp_incumbent.specs.declared.tickets.Drawn.{Drawn}
 use Rattle.bp_incumbent.specs.declared.halt.Halts.{Halts}
 use Rattle.bp_incumbent.specs.declared.halt.HaltView.{HaltView}

@@ -1,6 +1,6 @@
 -- Each step on the halt table keeps its rule, and that at the end halt was read only where a pass halted.
-use Rattle.std.proofs.Common.{◌≡◌, ℕ, zero, suc, ◌+◌, ◌<◌, ◌≤◌, min, bit_or, Bool, true, false, ◌||◌, List, [], ◌∷◌, ◌++◌, length, set, slice_set, slice_index, sym, refl, ap, ◌∙◌, subst, arith}
-use Rattle.std.specs.List.{sum_by, range_with_len}
+use Rattle.std.proofs.Common.{◌≡◌, ℕ, zero, suc, ◌+◌, ◌<◌, ◌≤◌, min, bit_or, Bool, true, false, ◌||◌, List, [], ◌∷◌, length, set, slice_set, slice_index, sym, refl, ap, ◌∙◌, subst, arith}
+use Rattle.std.specs.List.{sum_by}
 use Rattle.std.proofs.lemmas.List.Sums.{sum_by-cons, sum_by-append, sum_by_push}
 use mathlib.Core.Option.{some}
 use mathlib.Core.Logic.{dite}

@@ -1,6 +1,6 @@
 -- Each step on the side table keeps its rule, and what the last word then is.
-use Rattle.std.proofs.Common.{◌≡◌, ◌≢◌, ℕ, ◌+◌, ◌<◌, ◌≤◌, ◌⊎◌, min, List, [], ◌∷◌, ◌++◌, length, set, slice_set, slice_index, get_or, All, sym, refl, ap, ◌∙◌, subst, inl, inr, arith, le_refl}
-use Rattle.std.specs.List.{sum_by, Contains, range_with_len}
+use Rattle.std.proofs.Common.{◌≡◌, ℕ, ◌+◌, ◌<◌, ◌≤◌, min, List, [], ◌∷◌, ◌++◌, length, set, slice_set, slice_index, get_or, All, sym, refl, ap, ◌∙◌, subst, inl, inr, arith, le_refl}
+use Rattle.std.specs.List.{sum_by}
 use Rattle.std.proofs.lemmas.List.Sums.{sum_by-cons, sum_by-append, sum_by_push}
 use mathlib.Core.Option.{some, some-injective}
 use mathlib.Core.Logic.{dite}
@@ -71,8 +71,8 @@ lowers o p word i k views v named kept at =
     let w = with_seen (with_offer v k) word in
     let s : (y : ℕ) → all_seen y (set views i w) ≡ all_seen y views + one_at y word = λ y. omega (arith, total_set (seen y) views i v w at, times_push y v.seen word) in
     let f : (y : ℕ) → all_offers y (set views i w) ≡ all_offers y views + one_at y k = λ y.
-        let sides : Offers → ℕ = λ (p : Offers). times y p.sides in
-        omega (arith, total_set (offered y) views i v w at, only sides v.passes named.0 named.1, only_changed sides (one_more k) v.passes named.0 named.1, times_push y named.0.sides k) in
+    let sides : Offers → ℕ = λ (p : Offers). times y p.sides in
+    omega (arith, total_set (offered y) views i v w at, only sides v.passes named.0 named.1, only_changed sides (one_more k) v.passes named.0 named.1, times_push y named.0.sides k) in
     record {
       numbers = λ h. omega (arith, total_set (numbers h) views i v w at, unchanged (λ (p : Offers). h p.number) (one_more k) (λ p. refl) v.passes, kept.numbers h);
       lower = λ y lt. omega (arith, s y, f y, kept.lower y (omega arith), one_other y word (λ e. omega arith), one_other y k (λ e. omega arith));
@@ -129,7 +129,7 @@ adds key id v other w s holds at _ at_other =
     let b = both v w in let vs = set s.views id b in let kept = holds.2 in
     let sn : (y : ℕ) → all_seen y (set vs other none) ≡ all_seen y s.views = λ y. omega (arith, total_set (seen y) s.views id v b at, total_set (seen y) vs other w none at_other, times-append y v.seen w.seen) in
     let of : (y : ℕ) → all_offers y (set vs other none) ≡ all_offers y s.views = λ y.
-        omega (arith, total_set (offered y) s.views id v b at, total_set (offered y) vs other w none at_other, sum_by-append (λ (p : Offers). times y p.sides) v.passes w.passes) in (
+    omega (arith, total_set (offered y) s.views id v b at, total_set (offered y) vs other w none at_other, sum_by-append (λ (p : Offers). times y p.sides) v.passes w.passes) in (
       holds.0,
       holds.1,
       record {

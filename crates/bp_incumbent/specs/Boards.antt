@@ -1,5 +1,5 @@
 -- How a board is kept.
-use Rattle.std.specs.Prelude.{◌≡◌, ℕ, ◌<◌, ◌≤◌}
+use Rattle.std.specs.Prelude.{◌≡◌, ◌<◌, ◌≤◌}
 use Rattle.atomic_table.specs.Seated.{TableId}
 use Rattle.bp_base.specs.Limits.{most_budget, most_hands}
 use Rattle.bp_incumbent.specs.declared.board.Board.TheInside.{Inside}

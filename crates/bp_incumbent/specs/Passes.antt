@@ -1,5 +1,5 @@
 -- How a pass is kept.
-use Rattle.std.specs.Prelude.{◌≡◌, ℕ, Bool, false, List, [], ◌∷◌, All}
+use Rattle.std.specs.Prelude.{◌≡◌, Bool, false, List, [], ◌∷◌, All}
 use Rattle.std.specs.List.{Contains}
 use Rattle.bp_incumbent.specs.declared.pass.Pass.TheInside.{Inside}
 use Rattle.bp_incumbent.specs.declared.side.Offers.{Offers}

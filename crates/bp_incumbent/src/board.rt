@@ -1,4 +1,4 @@
-//! The board and its calls. None of them waits for another.
+//! The board and its calls. None takes a handle, so none can wait for another.
 ghost use Rattle.std.specs.Prelude.{◌≡◌, ℕ, ◌+◌, ◌-◌, ◌<◌, ◌≤◌, true, false, leb, [], ◌++◌, map, length, All, IfOk, slice_index_or};
 ghost use Rattle.std.specs.List.{flat_map, Contains, Any, range_with_len};
 ghost use Rattle.bp_base.specs.Bags.{AreSame};
@@ -82,8 +82,11 @@ impl Board {
                 passes,
             },
         )?;
-        let (ticket_table, ticket_seat) =
-            TicketTable::of_words(alloc, &[0], &TicketKey { limit, passes })?;
+        let (ticket_table, ticket_seat) = TicketTable::of_words(
+            alloc,
+            &[0],
+            &TicketKey { limit, passes },
+        )?;
         let (halt_table, halt_seat) = HaltTable::of_words(alloc, &[0], &HaltKey { passes })?;
         let board = Board {
             side: side_table,
@@ -183,6 +186,7 @@ impl Board {
         ensures carried { IfOk result (λ _. All IsCarried passes.items) }
         ensures halt { IfOk result (λ _. Any (λ p. p.halt_read ≡ true) passes.items → Any (λ p. p.halted ≡ true) passes.items) }
     {
+        // Joining seats takes no memory.
         let _ = alloc;
         let seats = gather(&self, passes);
         let Board {

@@ -1,4 +1,5 @@
 ghost use Rattle.std.specs.Prelude.{◌≡◌, ◌<◌, ◌≤◌, leb, false, [], ◌∷◌, ◌++◌, All, IfOk, length};
+ghost use Rattle.bp_base.specs.Limits.{most_number, most_budget};
 ghost use Rattle.bp_incumbent.specs.Board.{new_pass};
 ghost use Rattle.bp_incumbent.specs.Tickets.{is_spent};
 
@@ -11,7 +12,7 @@ use std::thread::Threads;
 
 // A board with two passes.
 fn board_of_two(alloc: Global, side: u64, limit: u64) -> Result<(Board, Pass, Pass), Fail>
-    requires { (side ≤ 999999999) × (limit ≤ 200000) }
+    requires { (side ≤ most_number) × (limit ≤ most_budget) }
     ensures board { IfOk result (λ r. (r.0.limit ≡ limit) × (r.0.passes ≡ 2)) }
     ensures passes { IfOk result (λ r. (r.1 ≡ new_pass r.0.id 1 side) × (r.2 ≡ new_pass r.0.id 2 side)) }
 {
@@ -51,7 +52,13 @@ fn two_passes(rt: HostRuntime) -> Result<(), Fail> {
     assert_eq!(rt; board.meet(&mut b, note), 7);
     let passes = Vec::from_array(rt.alloc(), [a, b])?;
     let closing = board.close(rt.alloc(), passes)?;
-    assert_eq!(rt; closing, Closing { side: 7, tickets: 4 });
+    assert_eq!(rt;
+        closing,
+        Closing {
+            side: 7,
+            tickets: 4
+        }
+    );
     Ok(())
 }
 
@@ -69,7 +76,13 @@ fn an_offer_and_a_halt_reach_another(rt: HostRuntime) -> Result<(), Fail> {
     assert!(rt; board.halted(&mut a));
     let passes = Vec::from_array(rt.alloc(), [a, b])?;
     let closing = board.close(rt.alloc(), passes)?;
-    assert_eq!(rt; closing, Closing { side: 6, tickets: 0 });
+    assert_eq!(rt;
+        closing,
+        Closing {
+            side: 6,
+            tickets: 0
+        }
+    );
     Ok(())
 }
 
@@ -86,12 +99,7 @@ fn turn(board: &Board, pass: &mut Pass, place: usize, drawn: &[AtomicU64; 4])
 }
 
 // Four workers, each in a thread of its own.
-fn four_turns<R: Threads + Sync>(
-    rt: &R,
-    board: &Board,
-    passes: &mut [Pass],
-    drawn: &[AtomicU64; 4],
-)
+fn four_turns<R: Threads + Sync>(rt: &R, board: &Board, passes: &mut [Pass], drawn: &[AtomicU64; 4])
     requires { All (λ p. (p.board ≡ board.now.id) × (p.tickets ≡ [])) passes.old × (length passes.old ≡ 4) }
     ensures { All (λ p. p.board ≡ board.now.id) passes.new × (length passes.new ≡ 4) }
 {
@@ -109,7 +117,13 @@ fn four_threads(rt: HostRuntime) -> Result<(), Fail> {
     ];
     four_turns(&rt, &board, passes.as_mut_slice(), &drawn);
     let closing = board.close(rt.alloc(), passes)?;
-    assert_eq!(rt; closing, Closing { side: 6, tickets: 4 });
+    assert_eq!(rt;
+        closing,
+        Closing {
+            side: 6,
+            tickets: 4
+        }
+    );
     let mut tickets = [0; 4];
     for k in 0..4 {
         tickets[k] = drawn[k].load(Ordering::SeqCst);

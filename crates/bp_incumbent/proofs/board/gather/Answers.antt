@@ -1,4 +1,4 @@
-use Rattle.std.proofs.Common.{◌≡◌, List, ◌∷◌, [], ◌++◌, ap, sym, ◌∙◌}
+use Rattle.std.proofs.Common.{◌≡◌, ◌∷◌, [], ◌++◌, ap, sym, ◌∙◌}
 use Rattle.bp_incumbent.specs.Board.{PassView}
 use Rattle.bp_incumbent.proofs.Gathers.{starts, takes, all_less}
 use Rattle.bp_incumbent.proofs.board.gather.Goals as goal

@@ -1,4 +1,4 @@
-use Rattle.std.proofs.Common.{ℕ, ◌<◌, refl, ap, ◌∙◌}
+use Rattle.std.proofs.Common.{◌<◌, refl, ap, ◌∙◌}
 use Rattle.bp_incumbent.specs.declared.tickets.Ticket.{Ticket}
 use Rattle.bp_incumbent.specs.Tickets.{tickets_of}
 use Rattle.bp_incumbent.proofs.Passes.{with_tickets, of_drawn, all_of, spent_after}
