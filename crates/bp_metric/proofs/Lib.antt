@@ -6,3 +6,4 @@ pub mod Regions
 mod Rows
 pub mod Stars
 mod Tables
+pub mod TwoFlaps

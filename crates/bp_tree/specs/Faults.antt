@@ -56,7 +56,7 @@ pub record IsKind (names : List (List ℕ)) (line : List ℕ) (kind : TreeKind) 
 
 -- the names that these rows make: the first upper name, and all lower names
 abbrev pub names_of : List (List (List ℕ)) → List (List ℕ)
-names_of rs = take 1 (map (λ row. word row 0) rs) ++ map (λ row. word row 1) rs
+names_of rs = take 1 (map (λ words. word words 0) rs) ++ map (λ words. word words 1) rs
 
 -- the line of number n, counted from 1
 abbrev pub line_at : List (List ℕ) → ℕ → List ℕ
@@ -165,6 +165,6 @@ ReadsTree bytes (Err NoMemory) = Unit
 
 -- No other tree and no other fault is that of the bytes.
 abbrev pub IsOnlyAnswer : List ℕ → Result TreeValue ReadTree → Type 0
-IsOnlyAnswer bytes (Ok T) = (U : TreeValue) → TreeOf bytes U → U ≡ T
+IsOnlyAnswer bytes (Ok T) = ((U : TreeValue) → TreeOf bytes U → U ≡ T) × ((f : TreeFault) → IsTreeFault bytes f → ⊥)
 IsOnlyAnswer bytes (Err (Fault f)) = (g : TreeFault) → IsTreeFault bytes g → g ≡ f
 IsOnlyAnswer bytes (Err NoMemory) = Unit

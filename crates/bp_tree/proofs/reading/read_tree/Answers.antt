@@ -1,3 +1,4 @@
+use Rattle.bp_tree.specs.Text.{TreeOf}
 use Rattle.bp_tree.specs.Faults.{IsTreeFault}
 use Rattle.bp_tree.proofs.OneFault.{one_fault, stopped}
 use Rattle.bp_tree.proofs.Whole.{end_fault, no_tree, one_tree, tree_found}
@@ -24,5 +25,6 @@ returns-in-Err-finish-clause-only c =
     rw c.of_the_whole-in-Err-finish.ensures (λ g. one_fault c.args.bytes.now (record { line = 0; kind = c.in-Err-finish.kind }) g (of_whole c))
 
 pub returns-in-Ok-finish-clause-only : goal.returns-in-Ok-finish-clause-only
-returns-in-Ok-finish-clause-only c U =
-    one_tree c.args.bytes.now c.in-Ok-finish.tree U (tree_found c.args.bytes.now _ c.in-Ok-finish.tree tt c.if-bytes-gt-MOST_TREE_BYTES.false c.in-Ok-read_edges.ensures.edges c.in-Ok-finish.ensures)
+returns-in-Ok-finish-clause-only c =
+    let found : TreeOf c.args.bytes.now c.in-Ok-finish.tree = tree_found c.args.bytes.now _ c.in-Ok-finish.tree tt c.if-bytes-gt-MOST_TREE_BYTES.false c.in-Ok-read_edges.ensures.edges c.in-Ok-finish.ensures in
+    (λ U. one_tree c.args.bytes.now c.in-Ok-finish.tree U found, λ f fault. no_tree c.args.bytes.now f fault c.in-Ok-finish.tree found)
