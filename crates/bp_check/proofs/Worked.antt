@@ -1,5 +1,5 @@
 -- Worked rows of the tree c p 3/c q 4/: documents that check, that fail a condition, and one that `design` writes.
-use Rattle.std.proofs.Common.{◌≡◌, inl, inr, ℕ, zero, suc, ◌+◌, ◌<◌, ◌≤◌, false, List, [], ◌∷◌, ◌++◌, map, slice_index, unwrap_or, All, AllPairs, ◌≢◌, ◌⊎◌, Option, None, Some, refl, sym, ◌∙◌, ap, subst, arith}
+use Rattle.std.proofs.Common.{◌≡◌, inl, inr, ℕ, zero, suc, ◌<◌, ◌≤◌, false, List, [], ◌∷◌, ◌++◌, map, slice_index, unwrap_or, All, AllPairs, ◌≢◌, ◌⊎◌, Option, None, Some, refl, sym, ◌∙◌, ap, subst, arith}
 use Rattle.std.proofs.lemmas.Option.{none-some}
 use Rattle.std.proofs.lemmas.Bool.{true≢false}
 use Rattle.bp_base.specs.declared.path.Choice.TheVariants.{Left}

@@ -1,7 +1,6 @@
 -- The first condition that a document fails, in the order of the reasons.
-use Rattle.std.specs.Prelude.{◌≡◌, ◌⊎◌, ℕ, ◌<◌, ◌≤◌, List, [], length, Option, None, Some, slice_get}
+use Rattle.std.specs.Prelude.{◌≡◌, ◌⊎◌, ℕ, ◌<◌, List, length, Option, None, Some, slice_get}
 use Rattle.bp_base.specs.declared.point.Sheet.{Sheet}
-use Rattle.bp_base.specs.declared.path.Pair.{Pair}
 use Rattle.bp_base.specs.declared.path.Step.{Step}
 use Rattle.bp_base.specs.declared.refutation.Refutation.{Refutation}
 use Rattle.bp_base.specs.Tree.{TreeValue, leaf_count}

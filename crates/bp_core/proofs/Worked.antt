@@ -1,5 +1,5 @@
 -- Searches of the tree c p 3/c q 4/ that end with their budget spent: before the first ticket, and after one split.
-use Rattle.std.proofs.Common.{◌≡◌, inl, inr, ℕ, zero, suc, ◌<◌, ◌≤◌, List, [], ◌∷◌, All, Any, None, refl, sym, subst, arith}
+use Rattle.std.proofs.Common.{inl, inr, ℕ, zero, suc, ◌<◌, ◌≤◌, List, [], ◌∷◌, All, Any, refl, sym, subst, arith}
 use Rattle.bp_base.specs.declared.path.Choice.TheVariants.{Left}
 use Rattle.bp_base.specs.declared.path.Pair.{Pair}
 use Rattle.bp_base.specs.declared.point.Axis.{Axis}
@@ -11,7 +11,7 @@ use Rattle.bp_metric.specs.Distance.{leaf_dist}
 use Rattle.bp_metric.specs.Choices.{allowed}
 use Rattle.bp_metric.specs.Chains.{IsChain, chain_weight}
 use Rattle.bp_metric.specs.Coordinates.{IsLow, IsGreatestOn, IsForced}
-use Rattle.bp_metric.specs.Next.{IsNear, IsNextPair, IsEarlier, IsNext}
+use Rattle.bp_metric.specs.Next.{IsNear, IsNextPair, IsEarlier}
 use Rattle.bp_metric.specs.Opening.{IsOpeningSide}
 use Rattle.bp_metric.specs.Records.{IsSound}
 use Rattle.bp_metric.specs.Refutation.{extended}
