@@ -1,5 +1,8 @@
+pub mod Chains
+pub mod Cycles
 pub mod Distances
 pub mod Leaves
+pub mod Lows
 pub mod Ranges
 pub mod Refutations
 pub mod Regions
