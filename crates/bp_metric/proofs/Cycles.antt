@@ -1,12 +1,12 @@
 -- Joining and cutting lists of leaves; a cycle begun at another of its leaves is a cycle.
-use Rattle.std.proofs.Common.{◌≡◌, ◌≢◌, ℕ, zero, suc, ◌+◌, ◌-◌, ◌<◌, ◌≤◌, ◌⊎◌, List, [], ◌∷◌, ◌++◌, length, get_or, take, drop, refl, sym, ◌∙◌, ap, subst, arith, inl, inr}
+use Rattle.std.proofs.Common.{◌≡◌, ◌≢◌, ℕ, ◌+◌, ◌-◌, ◌≤◌, List, [], ◌∷◌, ◌++◌, length, get_or, refl, sym, ◌∙◌, ap, subst, arith, inl, inr}
 use Rattle.std.specs.List.{All, AllPairs}
-use Rattle.std.proofs.lemmas.List.{append-nil, take-append-drop, length-append, length-take-le, length-drop, get_or_append_left, get_or-append-add, get_or-drop, get_or-take, get_or_default}
+use Rattle.std.proofs.lemmas.List.{append-nil, length-append, get_or_append_left, get_or-append-add}
 use Rattle.std.proofs.lemmas.List.Elements.{All-append}
-use Rattle.std.proofs.lemmas.Bool.{cases_eq, cases_lt}
+use Rattle.std.proofs.lemmas.Bool.{cases_lt}
 use Rattle.bp_base.specs.declared.point.Axis.{Axis}
 use Rattle.bp_base.specs.declared.path.Step.{Step}
-use Rattle.bp_metric.specs.Chains.{Places, ArePlaced, IsChain, IsCycle, first_of, last_of}
+use Rattle.bp_metric.specs.Chains.{Places, ArePlaced, IsChain, IsCycle, last_of}
 use Rattle.bp_metric.proofs.Lows.{last_more}
 
 pub last_join : (xs : List ℕ) (y : ℕ) (ys : List ℕ) → last_of (xs ++ y ∷ ys) ≡ last_of (y ∷ ys)
@@ -61,7 +61,7 @@ differ_turned xs ys differ i j d less within =
           ]
     ]
 
-all_turned : (P : ℕ → Type 0) (xs ys : List ℕ) → All P (xs ++ ys) → All P (ys ++ xs)
+pub all_turned : (P : ℕ → Type 0) (xs ys : List ℕ) → All P (xs ++ ys) → All P (ys ++ xs)
 all_turned P xs ys all =
     All-append P ys xs
     (λ k d less. subst P (get_or-append-add xs ys k d) (all (length xs + k) d (omega (arith, length-append xs ys))))

@@ -7,5 +7,7 @@ pub mod Ranges
 pub mod Refutations
 pub mod Regions
 mod Rows
+pub mod Sampled
+pub mod Shown
 pub mod Stars
 mod Tables

@@ -55,6 +55,13 @@ IsShownOn T Square path Y = (v : ℕ) × IsGreatest T path v × (IsGreatestOn T 
 IsShownOn T (Strip width) path X = IsTooWide T path width
 IsShownOn T (Strip width) path Y = IsTooWide T path width → ⊥
 
+-- the axis that is shown and the side that is forced, from the greatest weights x and y on the axes
+abbrev pub IsJudged : Sheet → ℕ → ℕ → Axis → ℕ → Type 0
+IsJudged Square x y X v = (y ≤ x) × (v ≡ x)
+IsJudged Square x y Y v = (x < y) × (v ≡ y)
+IsJudged (Strip width) x y X v = (width < x) × (v ≡ most_number)
+IsJudged (Strip width) x y Y v = (x ≤ width) × (v ≡ y)
+
 -- i is the least-numbered leaf with the greatest low coordinate on the axis
 pub record IsShownLast (T : TreeValue) (path : List Step) (axis : Axis) (i : ℕ) : Type 0 where
   pub low : ℕ
@@ -107,17 +114,18 @@ pub record IsLeast (T : TreeValue) (G : Sheet) (path : List Step) (l : Least) : 
   pub forced : IsForced T G path l.forced
   pub claim : IsShown T G path l.claim
 
--- a cycle of the path that begins with its least leaf, on x where x has one
-pub record IsFirstCycle (n : ℕ) (path : List Step) (axis : Axis) (leaves : List ℕ) : Type 0 where
+-- a cycle that begins with its least leaf
+pub record IsLoop (n : ℕ) (path : List Step) (axis : Axis) (leaves : List ℕ) : Type 0 where
   pub cycle : IsCycle n path axis leaves
-  pub least : All (λ i. first_of leaves ≤ i) leaves
-  pub on_x : axis ≡ Y → HasCycleOn n path X → ⊥
+  pub first : All (λ i. first_of leaves ≤ i) leaves
 
+-- the claim is a cycle of the path that begins with its least leaf, on x where x has one
 abbrev pub IsCycleShown : ℕ → List Step → Claim → Type 0
 IsCycleShown n path (Walk axis chain) = ⊥
-IsCycleShown n path (Cycle axis chain) = IsFirstCycle n path axis chain
+IsCycleShown n path (Cycle X chain) = IsLoop n path X chain
+IsCycleShown n path (Cycle Y chain) = IsLoop n path Y chain × (HasCycleOn n path X → ⊥)
 
--- what walking a path gives: its least coordinates or, exactly where it has a cycle, a cycle
+-- what walking a path gives: its least coordinates where it has no cycle, else a cycle
 abbrev pub IsWalked : TreeValue → Sheet → List Step → Walked → Type 0
 IsWalked T G path (Fine l) = IsLeast T G path l
-IsWalked T G path (Found c) = IsCycleShown (leaf_count T) path c
+IsWalked T G path (Found claim) = IsCycleShown (leaf_count T) path claim
