@@ -42,8 +42,10 @@ pub fn run<R: Threads + Sync, T: Source, D: Source, K: Sink, F: Sink, E: Sink, G
 
     ensures told { Tells (E.held err.old) (E.held err.new) (E.faults err.old) (E.faults err.new) (text_of result) }
 
-    // A fault comes only where its count rose in this call.
+    // Only these two write.
     ensures unwritten { (result ≡ Status.Done → ⊥) → (result ≡ Status.WriteFault → ⊥) → out.new ≡ out.old }
+
+    // A fault comes only where its count rose in this call.
     ensures read { result ≡ Status.ReadFault → Rose (T.faults tree.old) (T.faults tree.new) }
     ensures write { result ≡ Status.WriteFault → Rose (K.faults out.old) (K.faults out.new) }
 {
