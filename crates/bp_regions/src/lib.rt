@@ -1,0 +1,6 @@
+//! Regions of a placement on a square: which unit cells an edge reaches, which it owns, and the cuts between which cells are alike.
+#![tactic(auto)]
+
+mod laws;
+
+pub use laws::{law_of_cuts, law_of_regions};
