@@ -1,2 +1,4 @@
 mod Alike
 pub mod Disjoint
+mod Ends
+mod Rows

@@ -1,3 +1,4 @@
 pub mod Cells
 pub mod Cuts
 pub mod Regions
+pub mod Balls

@@ -11,8 +11,12 @@ pub record RegionsValue : Type 0 where
   pub side : ℕ
   pub points : List Point
 
+-- the points are a valid placement, whose side is a number of a document
+pub record ArePlaced (T : TreeValue) (S : ℕ) (P : List Point) : Type 0 where
+  pub small : S ≤ most_number
+  pub valid : Valid T Square 1 S P
+
 -- what all regions keep
 pub record AreRegions (R : RegionsValue) : Type 0 where
   pub tree : IsTree R.tree
-  pub small : R.side ≤ most_number
-  pub valid : Valid R.tree Square 1 R.side R.points
+  pub placed : ArePlaced R.tree R.side R.points
