@@ -8,3 +8,6 @@ mod regions;
 
 pub use laws::{law_of_cuts, law_of_regions};
 pub use regions::Regions;
+
+#[cfg(test)]
+mod tests;
