@@ -2,3 +2,4 @@ mod Alike
 pub mod Disjoint
 mod Ends
 mod Rows
+mod Worked
