@@ -1,9 +1,9 @@
 -- Cells of a worked placement: an edge owns what it reaches and no edge below it does.
-use Rattle.std.proofs.Common.{◌≡◌, ◌≢◌, ℕ, zero, suc, ◌+◌, ◌<◌, ◌≤◌, true, false, List, [], ◌∷◌, refl, sym, arith}
+use Rattle.std.proofs.Common.{◌≡◌, ◌≢◌, ℕ, zero, suc, true, List, [], ◌∷◌, refl, arith}
 use Rattle.std.proofs.lemmas.Bool.{false≢true}
 use Rattle.bp_base.specs.declared.point.Point.{Point}
 use Rattle.bp_base.specs.Point.{point_at}
-use Rattle.bp_base.specs.Tree.{TreeValue, IsEdge, IsLeaf, leaf_count, node_count}
+use Rattle.bp_base.specs.Tree.{TreeValue, IsEdge, IsLeaf}
 use Rattle.bp_metric.specs.Distance.{is_below, share, dist, leaf_below, radius}
 use Rattle.bp_regions.specs.Cells.{IsInBall, Own, Reach}
 
