@@ -1,5 +1,5 @@
 -- The best near pair, from row to row, and that it is the next pair of a path.
-use Rattle.std.proofs.Common.{◌≡◌, inl, inr, ℕ, ◌+◌, ◌-◌, ◌<◌, ◌≤◌, max, List, Option, None, Some, subst, sym, ap, arith}
+use Rattle.std.proofs.Common.{◌≡◌, inl, inr, ℕ, ◌+◌, ◌<◌, ◌≤◌, max, List, Option, None, Some, subst, arith}
 use Rattle.std.proofs.lemmas.Bool.{cases_lt}
 use Rattle.std.specs.Int.{abs_diff}
 use Rattle.bp_base.specs.declared.path.Pair.{Pair}
@@ -11,10 +11,10 @@ use Rattle.bp_base.specs.Path.{IsPairOf}
 use Rattle.bp_base.specs.Tree.{TreeValue, leaf_count}
 use Rattle.bp_metric.specs.Distance.{leaf_dist}
 use Rattle.bp_metric.specs.Coordinates.{IsLeast, IsLow}
-use Rattle.bp_metric.specs.Next.{IsNear, IsNext, IsNextPair}
+use Rattle.bp_metric.specs.Next.{IsNear, IsNext}
 use Rattle.bp_metric.specs.Valid.{IsPair}
 use Rattle.bp_metric.proofs.Lows.{one_low}
-use Rattle.bp_branch.specs.Nearest.{AreNear, IsBefore, IsBest, IsFarthest, of_leaf}
+use Rattle.bp_branch.specs.Nearest.{AreNear, IsBefore, IsBest, of_leaf}
 
 module _ (T : TreeValue) (xs ys : List ℕ) where
   -- no pair stands between (i, 0) and (i, i + 1)
