@@ -41,6 +41,17 @@ impl Chain {
         Some(Chain { leaves: kept })
     }
 
+    /// The same leaves again, without memory.
+    pub fn copy(&self) -> Chain
+        ensures { result ≡ self.now }
+    {
+        let mut kept = SmallVec::new(*self.leaves.allocator());
+        for leaf in self.leaves.as_slice() {
+            kept.push_reserved(*leaf);
+        }
+        Chain { leaves: kept }
+    }
+
     pub fn len(&self) -> u64
         ensures length { result ≡ length self.now }
         ensures chain { IsChainList self.now }
@@ -62,4 +73,22 @@ impl Chain {
 pub enum Claim {
     Walk { axis: Axis, chain: Chain },
     Cycle { axis: Axis, chain: Chain },
+}
+
+impl Claim {
+    /// The same claim again, without memory.
+    pub fn copy(&self) -> Claim
+        ensures { result ≡ self.now }
+    {
+        match self {
+            Claim::Walk { axis, chain } => Claim::Walk {
+                axis: *axis,
+                chain: chain.copy(),
+            },
+            Claim::Cycle { axis, chain } => Claim::Cycle {
+                axis: *axis,
+                chain: chain.copy(),
+            },
+        }
+    }
 }

@@ -1,0 +1,10 @@
+//! Judging a branch of the search: what its path forces, the pair that it splits on, and how it is closed.
+#![tactic(auto)]
+
+mod judging;
+mod pairs;
+#[cfg(test)]
+mod tests;
+
+pub use judging::{examine, extended, judge};
+pub use pairs::next_pair;

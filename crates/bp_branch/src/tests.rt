@@ -1,0 +1,133 @@
+// Worked paths of stars, judged against bounds.
+ghost use Rattle.std.specs.Prelude.{◌≡◌, ◌≤◌, IsTrue, IfOk};
+ghost use Rattle.bp_base.specs.Limits.{most_number};
+ghost use Rattle.bp_metric.specs.Chains.{HasPairsOf};
+ghost use Rattle.bp_metric.specs.Samples.{is_sample, letters};
+
+use crate::{examine, extended, next_pair};
+use bp_base::{Chain, Choice, Claim, Name, Outcome, Pair, Path, Step, Tree};
+use bp_metric::Metric;
+use std::alloc::Global;
+use std::test::Fail;
+
+// The names a, b, c, ..
+fn names(alloc: Global, count: usize) -> Result<Vec<Name>, Fail>
+    requires { count ≤ 26 }
+    ensures { IfOk result (λ v. v.items ≡ letters count) }
+{
+    let mut names = Vec::new(alloc);
+    for number in 0..count {
+        match Name::new(&[97 + number as u8]) {
+            Some(name) => names.push(name)?,
+            None => return Err(Fail::from("no name")),
+        }
+    }
+    Ok(names)
+}
+
+fn tree(alloc: Global, parents: &[u64], lengths: &[u64]) -> Result<Tree, Fail>
+    requires { IsTrue (is_sample parents.now lengths.now) }
+{
+    let names = names(alloc, parents.len())?;
+    let parents = Vec::from_slice(alloc, parents)?;
+    let lengths = Vec::from_slice(alloc, lengths)?;
+    Ok(Tree::of(parents, lengths, names))
+}
+
+// The path of these steps, for pairs of n leaves.
+fn path_of(alloc: Global, n: u64, steps: &[(u64, u64, Choice)]) -> Result<Path, Fail>
+    requires { n ≤ 32 }
+    ensures { IfOk result (λ path. HasPairsOf n path) }
+{
+    let mut path = Path::empty(alloc);
+    for (i, j, choice) in steps {
+        if *i < 1 || *i >= *j || n < *j || path.len() >= 496 {
+            return Err(Fail::from("no step"));
+        }
+        path = extended(
+            alloc,
+            &path,
+            Step {
+                pair: Pair { i: *i, j: *j },
+                choice: *choice,
+            },
+        )?;
+    }
+    Ok(path)
+}
+
+// What is shown of an outcome: its kind, and the numbers that it names.
+#[derive(Clone, Copy, Debug, PartialEq, Eq)]
+enum Seen {
+    Cyclic(u64),
+    Closed(u64),
+    Solved(u64),
+    Split(u64, u64),
+}
+
+fn length(claim: &Claim) -> u64 {
+    match claim {
+        Claim::Walk { chain, .. } => chain.len(),
+        Claim::Cycle { chain, .. } => chain.len(),
+    }
+}
+
+fn told_of(outcome: &Outcome) -> Seen {
+    match outcome {
+        Outcome::Cyclic(claim) => Seen::Cyclic(length(claim)),
+        Outcome::Closed(claim) => Seen::Closed(length(claim)),
+        Outcome::Solved { side, .. } => Seen::Solved(*side),
+        Outcome::Split(pair) => Seen::Split(pair.i, pair.j),
+    }
+}
+
+fn judged(
+    alloc: Global,
+    metric: &Metric,
+    steps: &[(u64, u64, Choice)],
+    bound: u64,
+) -> Result<Seen, Fail>
+    requires { bound ≤ most_number }
+{
+    let path = path_of(alloc, metric.leaves(), steps)?;
+    let (outcome, least) = examine(alloc, metric, &path, bound)?;
+    match (&least, &outcome) {
+        (None, Outcome::Cyclic(_)) => Ok(told_of(&outcome)),
+        (None, _) => Err(Fail::from("no coordinates")),
+        (Some(found), Outcome::Split(pair)) => match next_pair(metric, found) {
+            Some(next) if next == *pair => Ok(told_of(&outcome)),
+            _ => Err(Fail::from("another pair")),
+        },
+        (Some(_), _) => Ok(told_of(&outcome)),
+    }
+}
+
+#[test]
+fn paths_of_a_star(rt: HostRuntime) -> Result<(), Fail> {
+    let alloc = rt.alloc();
+    let star = tree(alloc, &[0, 0, 0, 0], &[0, 2, 2, 1])?;
+    let metric = Metric::of(alloc, &star)?;
+    let (left, right, below) = (Choice::Left, Choice::Right, Choice::Below);
+    let rows: [(&[(u64, u64, Choice)], u64, Seen); 8] = [
+        (&[], 5, Seen::Split(1, 2)),
+        (&[], 0, Seen::Closed(1)),
+        (&[(1, 2, left)], 5, Seen::Split(1, 3)),
+        (&[(1, 2, left)], 4, Seen::Closed(2)),
+        (&[(1, 2, left), (1, 3, below)], 5, Seen::Solved(4)),
+        (&[(1, 2, left), (1, 3, left)], 5, Seen::Split(2, 3)),
+        (&[(1, 2, left), (2, 3, left)], 7, Seen::Closed(3)),
+        (
+            &[(1, 2, left), (2, 3, left), (1, 3, right)],
+            9,
+            Seen::Cyclic(3),
+        ),
+    ];
+    for (steps, bound, wanted) in rows {
+        assert_eq!(rt;
+            judged(alloc, &metric, steps, bound)?,
+            wanted,
+            "{steps:?}, {bound}"
+        );
+    }
+    Ok(())
+}
