@@ -1,4 +1,7 @@
 pub mod Words
+pub mod Cuts
+pub mod Chains
+pub mod NodeLines
 pub mod Nodes
 mod Leaves
 mod Parts

@@ -1,3 +1,5 @@
 pub mod Lines
 pub mod Ranges
 pub mod Text
+pub mod Words
+pub mod Nodes

@@ -1,13 +1,18 @@
 //! Design documents: what they hold, and their text.
 #![tactic(auto)]
 
+mod cut;
 mod document;
+mod fault;
 mod line;
 mod node;
+mod node_line;
 mod points;
 mod write;
 
 pub use document::Document;
+pub use fault::{DocFault, DocKind, ReadDoc};
+pub use node_line::{NodeKind, NodeLine};
 pub use write::write_document;
 
 #[cfg(test)]
