@@ -3,3 +3,7 @@ pub mod Ranges
 pub mod Text
 pub mod Words
 pub mod Nodes
+pub mod Forms
+pub mod FormWords
+pub mod Places
+pub mod Faults

@@ -4,6 +4,8 @@
 mod cut;
 mod document;
 mod fault;
+mod form;
+mod head;
 mod line;
 mod node;
 mod node_line;
@@ -12,6 +14,7 @@ mod write;
 
 pub use document::Document;
 pub use fault::{DocFault, DocKind, ReadDoc};
+pub use head::Head;
 pub use node_line::{NodeKind, NodeLine};
 pub use write::write_document;
 

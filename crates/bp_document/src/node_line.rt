@@ -113,8 +113,8 @@ fn pair_of(bytes: &[u8]) -> Option<Pair>
     Some(Pair { i, j })
 }
 
-// The chain of words that are numbers.
-fn chain_of(alloc: Global, bytes: &[u8]) -> Option<Chain>
+/// The chain of the words behind the first space, which are numbers.
+pub fn chain_of(alloc: Global, bytes: &[u8]) -> Option<Chain>
     ensures { ReadsChain (words_behind bytes.now) result }
 {
     let mut numbers: SmallVec<u64, 32> = SmallVec::new(alloc);
