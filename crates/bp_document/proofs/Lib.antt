@@ -2,6 +2,7 @@ pub mod Words
 pub mod Cuts
 pub mod Chains
 pub mod NodeLines
+pub mod Forms
 pub mod Nodes
 mod Leaves
 mod Parts

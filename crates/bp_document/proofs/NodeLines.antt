@@ -68,7 +68,7 @@ words_of_line bytes w ws first rest same =
     ap words (append_cancel_right bytes (w ++ flat_map word ws) (10 ∷ []) same)
     ∙ words_joined w ws first rest
 
-number_words : (ks : List ℕ) → All (λ k. k ≤ most_number) ks → All IsWord (map decimal ks)
+pub number_words : (ks : List ℕ) → All (λ k. k ≤ most_number) ks → All IsWord (map decimal ks)
 number_words ks small = All-map IsWord decimal ks (λ k d less. number_word (get_or ks k d) (small k d less))
 
 axis_is_word : (axis : Axis) → IsWord (axis_word axis)
