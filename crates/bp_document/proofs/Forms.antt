@@ -1,22 +1,18 @@
 -- A line before the nodes has the form that its words say.
-use Rattle.std.proofs.Common.{◌≡◌, ℕ, ◌≤◌, ◌==◌, true, false, List, [], ◌∷◌, ◌++◌, get_or, map, All, decimal, Option, None, Some, MatchOption, refl, sym, ◌∙◌, ap, arith}
+use Rattle.std.proofs.Common.{◌≡◌, ℕ, ◌==◌, true, false, List, [], ◌∷◌, get_or, map, All, decimal, Option, None, Some, MatchOption, refl, arith}
 use Rattle.std.specs.Prelude.{codes}
 use Rattle.std.proofs.lemmas.Bool.Decides.{nat_tests}
 use Rattle.std.proofs.lemmas.List.Elements.{All-cons, All-nil}
 use Rattle.bp_base.specs.declared.point.Floor.{Floor}
-use Rattle.bp_base.specs.declared.point.Point.{Point}
 use Rattle.bp_base.specs.declared.point.Sheet.{Sheet}
 use Rattle.bp_base.specs.declared.point.Sheet.TheVariants.{Square, Strip}
-use Rattle.bp_base.specs.Limits.{most_number, most_width, most_proof_lines}
+use Rattle.bp_base.specs.Limits.{most_number}
 use Rattle.bp_base.specs.Name.{IsName, is_name_byte}
-use Rattle.bp_metric.specs.Metric.{IsSheet}
 use Rattle.bp_tree.specs.declared.edge.Edge.{Edge}
 use Rattle.bp_document.specs.declared.form.FloorForm.{FloorForm}
 use Rattle.bp_document.specs.declared.form.PointForm.{PointForm}
-use Rattle.bp_document.specs.Lines.{line, sheet_line}
-use Rattle.bp_document.specs.Ranges.{IsSmallPoint, IsFloorLine}
 use Rattle.bp_document.specs.Words.{words}
-use Rattle.bp_document.specs.Forms.{IsLine, IsSheetLine, IsField, IsEdgeForm, IsPointForm, IsFloorForm, IsProofForm, IsProofCount, proof_line}
+use Rattle.bp_document.specs.Forms.{IsSheetLine, IsField, IsEdgeForm, IsPointForm, IsFloorForm, IsProofForm}
 use Rattle.bp_document.specs.FormWords.{ReadsField, ReadsSheet, ReadsEdgeForm, ReadsPointForm, ReadsFloorForm, ReadsProofForm, sheet_words, proof_words}
 use Rattle.bp_document.proofs.NodeLines.{IsWord, spelled_word, number_word, number_words, line_of_words, words_of_line}
 
@@ -36,17 +32,19 @@ module _ (bytes : List ℕ) where
   pub edge_exact : (r : Option Edge) → ReadsEdgeForm (words bytes) r → MatchOption r ((e : Edge) → IsEdgeForm bytes e → ⊥) (λ e. IsEdgeForm bytes e)
   edge_exact None reads = λ e is. reads e is.upper is.lower is.small
       (words_of_line bytes (codes "edge") (e.upper ∷ e.lower ∷ decimal e.length ∷ []) (spelled_word (codes "edge") refl)
-        (more e.upper (e.lower ∷ decimal e.length ∷ []) (name_word e.upper is.upper) (more e.lower (decimal e.length ∷ []) (name_word e.lower is.lower) (one (decimal e.length) (number_word e.length is.small)))) is.text)
+      (more e.upper (e.lower ∷ decimal e.length ∷ []) (name_word e.upper is.upper) (more e.lower (decimal e.length ∷ []) (name_word e.lower is.lower) (one (decimal e.length) (number_word e.length is.small)))) is.text)
   edge_exact (Some e) reads =
       record {
         text = line_of_words bytes (codes "edge") (e.upper ∷ e.lower ∷ decimal e.length ∷ []) reads.3;
-        upper = reads.0; lower = reads.1; small = reads.2
+        upper = reads.0;
+        lower = reads.1;
+        small = reads.2;
       }
 
   pub point_exact : (r : Option PointForm) → ReadsPointForm (words bytes) r → MatchOption r ((f : PointForm) → IsPointForm bytes f.name f.point → ⊥) (λ f. IsPointForm bytes f.name f.point)
   point_exact None reads = λ f is. reads f is.name_spelled is.small
       (words_of_line bytes (codes "point") (f.name ∷ decimal f.point.x ∷ decimal f.point.y ∷ []) (spelled_word (codes "point") refl)
-        (more f.name (decimal f.point.x ∷ decimal f.point.y ∷ []) (name_word f.name is.name_spelled) (more (decimal f.point.x) (decimal f.point.y ∷ []) (number_word f.point.x is.small.0) (one (decimal f.point.y) (number_word f.point.y is.small.1)))) is.text)
+      (more f.name (decimal f.point.x ∷ decimal f.point.y ∷ []) (name_word f.name is.name_spelled) (more (decimal f.point.x) (decimal f.point.y ∷ []) (number_word f.point.x is.small.0) (one (decimal f.point.y) (number_word f.point.y is.small.1)))) is.text)
   point_exact (Some f) reads =
       record { text = line_of_words bytes (codes "point") (f.name ∷ decimal f.point.x ∷ decimal f.point.y ∷ []) reads.2; name_spelled = reads.0; small = reads.1 }
 
@@ -57,7 +55,7 @@ module _ (bytes : List ℕ) where
       no_sheet Square is = words_of_line bytes (codes "sheet") (codes "square" ∷ []) (spelled_word (codes "sheet") refl) (one (codes "square") (spelled_word (codes "square") refl)) is.text
       no_sheet (Strip width) is =
           words_of_line bytes (codes "sheet") (codes "strip" ∷ decimal width ∷ []) (spelled_word (codes "sheet") refl)
-            (more (codes "strip") (decimal width ∷ []) (spelled_word (codes "strip") refl) (one (decimal width) (number_word width (omega (arith, is.sheet))))) is.text
+          (more (codes "strip") (decimal width ∷ []) (spelled_word (codes "strip") refl) (one (decimal width) (number_word width (omega (arith, is.sheet))))) is.text
   sheet_exact (Some Square) reads = record { text = line_of_words bytes (codes "sheet") (codes "square" ∷ []) reads.1; sheet = reads.0 }
   sheet_exact (Some (Strip width)) reads = record { text = line_of_words bytes (codes "sheet") (codes "strip" ∷ decimal width ∷ []) reads.1; sheet = reads.0 }
 
@@ -74,11 +72,11 @@ module _ (bytes : List ℕ) where
   pub floor_exact : (r : Option FloorForm) → ReadsFloorForm (words bytes) r → MatchOption r ((f : Floor) → IsFloorForm bytes f → ⊥) (λ f. IsFloorForm bytes (record { m = f.m; leaves = f.leaves; side = f.side }))
   floor_exact None reads = λ f is. reads (record { m = f.m; side = f.side; leaves = f.leaves }) is.small.m is.small.side is.small.leaves
       (words_of_line bytes (codes "floor") (decimal f.m ∷ decimal f.side ∷ map decimal f.leaves) (spelled_word (codes "floor") refl)
-        (more (decimal f.m) (decimal f.side ∷ map decimal f.leaves) (number_word f.m is.small.m) (more (decimal f.side) (map decimal f.leaves) (number_word f.side is.small.side) (number_words f.leaves is.small.leaves.small))) is.text)
+      (more (decimal f.m) (decimal f.side ∷ map decimal f.leaves) (number_word f.m is.small.m) (more (decimal f.side) (map decimal f.leaves) (number_word f.side is.small.side) (number_words f.leaves is.small.leaves.small))) is.text)
   floor_exact (Some f) reads =
       record {
         text = line_of_words bytes (codes "floor") (decimal f.m ∷ decimal f.side ∷ map decimal f.leaves) reads.3;
-        small = record { m = reads.0; side = reads.1; leaves = reads.2 }
+        small = record { m = reads.0; side = reads.1; leaves = reads.2 };
       }
 
   module _ (keyword : List ℕ) (spelled : IsWord keyword) where

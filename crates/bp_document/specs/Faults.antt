@@ -5,7 +5,7 @@ use Rattle.bp_base.specs.declared.point.Sheet.{Sheet}
 use Rattle.bp_base.specs.declared.point.Point.{Point}
 use Rattle.bp_base.specs.declared.point.Floor.{Floor}
 use Rattle.bp_base.specs.Limits.{most_document_bytes, most_leaves}
-use Rattle.bp_base.specs.Tree.{TreeValue, leaf_count}
+use Rattle.bp_base.specs.Tree.{TreeValue, IsTree, leaf_count}
 use Rattle.bp_tree.specs.declared.edge.Edge.{Edge}
 use Rattle.bp_tree.specs.Edges.{HasEdges, IsLength, uppers, lowers, root_children}
 use Rattle.bp_tree.specs.Faults.{LacksUpper, RepeatsLower}
@@ -56,8 +56,10 @@ IsBadEdge E es e =
 -- The line at this place, which has its LF or not, has this fault.
 abbrev pub HasKind : Place → List ℕ → Bool → DocKind → Type 0
 HasKind place bytes ended TooLong = ⊥
-HasKind place bytes ended Trailing = place ≡ Behind
-HasKind place bytes ended Cut = ended ≡ false
+HasKind Behind bytes ended Trailing = Unit {0}
+HasKind place bytes ended Trailing = ⊥
+HasKind place bytes false Cut = Unit {0}
+HasKind place bytes true Cut = ⊥
 HasKind place bytes ended BadForm = HasForm place bytes → ⊥
 HasKind (AtEdge E es) bytes ended BadTree = (e : Edge) × IsEdgeForm bytes e × IsBadEdge E es e
 HasKind place bytes ended BadTree = ⊥
@@ -85,6 +87,20 @@ pub record IsFirstKind (place : Place) (bytes : List ℕ) (ended : Bool) (kind :
 abbrev pub HasLine : List ℕ → List ℕ → List ℕ → Bool → Type 0
 HasLine bytes text line true = (more : List ℕ) × (bytes ≡ text ++ line ++ 10 ∷ more)
 HasLine bytes text line false = bytes ≡ text ++ line
+
+-- What adding the edge of a line to those so far answers: they have it too, or the first fault that the line has.
+abbrev pub FeedsEdge : TreeValue → List ℕ → TreeValue → Result Unit DocKind → Type 0
+FeedsEdge T bytes T' (Ok done) =
+    (e : Edge) × IsEdgeForm bytes e × IsLength e.length × ((es : List Edge) → HasEdges T es → HasEdges T' (es ++ e ∷ []))
+FeedsEdge T bytes T' (Err kind) =
+    (E : ℕ) (es : List Edge) → HasEdges T es → IsEdgeCount E → length es < E → IsFirstKind (AtEdge E es) bytes true kind
+
+-- What adding the last edge answers: the tree of all, or the first fault that the line has.
+abbrev pub FeedsLastEdge : TreeValue → List ℕ → Result TreeValue DocKind → Type 0
+FeedsLastEdge T bytes (Ok U) =
+    (e : Edge) × IsEdgeForm bytes e × IsLength e.length × IsTree U × ((es : List Edge) → HasEdges T es → HasEdges U (es ++ e ∷ []))
+FeedsLastEdge T bytes (Err kind) =
+    (E : ℕ) (es : List Edge) → HasEdges T es → IsEdgeCount E → length es + 1 ≡ E → IsFirstKind (AtEdge E es) bytes true kind
 
 -- The line of the bytes behind a text without fault has this fault. The end of input is one only where a line is wanted.
 pub record IsFaultAt (bytes : List ℕ) (f : DocFault) : Type 0 where

@@ -3,6 +3,7 @@
 
 mod cut;
 mod document;
+mod edge_step;
 mod fault;
 mod form;
 mod head;
