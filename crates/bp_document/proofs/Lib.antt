@@ -4,7 +4,8 @@ pub mod Chains
 pub mod NodeLines
 pub mod Forms
 pub mod EdgeSteps
+pub mod LineSteps
 pub mod Nodes
-mod Leaves
+pub mod Leaves
 mod Parts
 mod Counts

@@ -33,7 +33,7 @@ HasForm AtBound bytes = (n : ℕ) × IsField (codes "bound") bytes n
 HasForm (AtPoint name) bytes = (other : List ℕ) × (p : Point) × IsPointForm bytes other p
 HasForm AtFloor bytes = (f : Floor) × IsFloorForm bytes f
 HasForm AtProof bytes = (count : Option ℕ) × IsProofForm bytes count
-HasForm (AtNode before) bytes = (l : NodeLine) × IsNodeLine bytes l
+HasForm (AtNode most) bytes = (l : NodeLine) × IsNodeLine bytes l
 HasForm AtEnd bytes = IsLine bytes end_line
 HasForm Behind bytes = ⊥
 
@@ -65,7 +65,7 @@ HasKind (AtEdge E es) bytes ended BadTree = (e : Edge) × IsEdgeForm bytes e × 
 HasKind place bytes ended BadTree = ⊥
 HasKind (AtPoint name) bytes ended BadPoint = (other : List ℕ) × (p : Point) × IsPointForm bytes other p × (other ≢ name)
 HasKind place bytes ended BadPoint = ⊥
-HasKind (AtNode before) bytes ended BadDepth = (l : NodeLine) × IsNodeLine bytes l × (DepthFits before l.depth → ⊥)
+HasKind (AtNode most) bytes ended BadDepth = (l : NodeLine) × IsNodeLine bytes l × (DepthFits most l.depth → ⊥)
 HasKind place bytes ended BadDepth = ⊥
 
 -- the order of the kinds
@@ -101,6 +101,15 @@ FeedsLastEdge T bytes (Ok U) =
     (e : Edge) × IsEdgeForm bytes e × IsLength e.length × IsTree U × ((es : List Edge) → HasEdges T es → HasEdges U (es ++ e ∷ []))
 FeedsLastEdge T bytes (Err kind) =
     (E : ℕ) (es : List Edge) → HasEdges T es → IsEdgeCount E → length es + 1 ≡ E → IsFirstKind (AtEdge E es) bytes true kind
+
+-- What reading the line of a leaf's point and that of a node answers: it, or the first fault that the line has.
+abbrev pub FeedsPoint : List ℕ → List ℕ → Result Point DocKind → Type 0
+FeedsPoint name bytes (Ok p) = IsPointForm bytes name p
+FeedsPoint name bytes (Err kind) = IsFirstKind (AtPoint name) bytes true kind
+
+abbrev pub FeedsNode : Option ℕ → List ℕ → Result NodeLine DocKind → Type 0
+FeedsNode most bytes (Ok l) = IsNodeLine bytes l × DepthFits most l.depth
+FeedsNode most bytes (Err kind) = IsFirstKind (AtNode most) bytes true kind
 
 -- The line of the bytes behind a text without fault has this fault. The end of input is one only where a line is wanted.
 pub record IsFaultAt (bytes : List ℕ) (f : DocFault) : Type 0 where

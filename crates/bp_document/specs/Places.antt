@@ -31,8 +31,8 @@ pub data Place : Type 0 where
   AtPoint : List ℕ → Place
   AtFloor : Place
   AtProof : Place
-  -- behind this node, if any
-  AtNode : Option NodeLine → Place
+  -- the first, or one that may be as deep as this behind the node before it
+  AtNode : Option ℕ → Place
   AtEnd : Place
   -- behind the line `end`
   Behind : Place
@@ -88,19 +88,20 @@ deepest (Split p) depth = depth + 1
 deepest (Closed claim) depth = depth
 deepest (Open claim) depth = depth
 
--- A node of this depth may stand behind this node, or first: a child of a split, or of a node further up.
-abbrev pub DepthFits : Option NodeLine → ℕ → Type 0
+-- A node of this depth may stand here: the root first, and then a child of a split, or of a node further up.
+abbrev pub DepthFits : Option ℕ → ℕ → Type 0
 DepthFits None depth = depth ≡ 0
-DepthFits (Some l) depth = (1 ≤ depth) × (depth ≤ deepest l.kind l.depth) × (depth ≤ most_steps)
+DepthFits (Some most) depth = (1 ≤ depth) × (depth ≤ most) × (depth ≤ most_steps)
 
 -- each node fits behind the one before it
-abbrev pub Follow : Option NodeLine → List NodeLine → Type 0
-Follow before [] = Unit {0}
-Follow before (l ∷ ls) = IsKindOfNumbers l.kind × DepthFits before l.depth × Follow (Some l) ls
+abbrev pub Follow : Option ℕ → List NodeLine → Type 0
+Follow most [] = Unit {0}
+Follow most (l ∷ ls) = IsKindOfNumbers l.kind × DepthFits most l.depth × Follow (Some (deepest l.kind l.depth)) ls
 
-abbrev pub last_of : Option NodeLine → List NodeLine → Option NodeLine
-last_of before [] = before
-last_of before (l ∷ ls) = last_of (Some l) ls
+-- how deep the node behind these may be
+abbrev pub deepest_behind : Option ℕ → List NodeLine → Option ℕ
+deepest_behind most [] = most
+deepest_behind most (l ∷ ls) = deepest_behind (Some (deepest l.kind l.depth)) ls
 
 abbrev pub count_of : Option ℕ → ℕ
 count_of None = 0
@@ -119,8 +120,8 @@ LeadsTo text (AtPoint name) =
 LeadsTo text AtFloor = (H : Head) × StartsThen text H.sheet (points_part H) × HasPoints H × (length H.points ≡ leaf_count H.tree)
 LeadsTo text AtProof =
     (H : Head) × StartsThen text H.sheet (floor_part H) × HasPoints H × (length H.points ≡ leaf_count H.tree) × IsFloorLine H.floor
-LeadsTo text (AtNode before) =
-    (H : Head) × (ns : List NodeLine) × StartsThen text H.sheet (nodes_part H ns) × IsHead H × Follow None ns × (length ns < count_of H.proof) × (before ≡ last_of None ns)
+LeadsTo text (AtNode most) =
+    (H : Head) × (ns : List NodeLine) × StartsThen text H.sheet (nodes_part H ns) × IsHead H × Follow None ns × (length ns < count_of H.proof) × (most ≡ deepest_behind None ns)
 LeadsTo text AtEnd =
     (H : Head) × (ns : List NodeLine) × StartsThen text H.sheet (nodes_part H ns) × IsHead H × Follow None ns × (length ns ≡ count_of H.proof)
 LeadsTo text Behind =

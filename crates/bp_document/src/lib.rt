@@ -10,6 +10,8 @@ mod head;
 mod line;
 mod node;
 mod node_line;
+mod node_step;
+mod point_step;
 mod points;
 mod write;
 
