@@ -22,7 +22,7 @@ no_space b named = grind (arith, nat_tests)
 pub name_word : (w : List ℕ) → IsName w → IsWord w
 name_word w is = λ k d less. no_space (get_or w k d) (is.spelled k d less)
 
-one : (v : List ℕ) → IsWord v → All IsWord (v ∷ [])
+pub one : (v : List ℕ) → IsWord v → All IsWord (v ∷ [])
 one v is = All-cons IsWord v [] is (All-nil IsWord)
 
 pub more : (v : List ℕ) (vs : List (List ℕ)) → IsWord v → All IsWord vs → All IsWord (v ∷ vs)

@@ -5,6 +5,8 @@ pub mod NodeLines
 pub mod Forms
 pub mod EdgeSteps
 pub mod LineSteps
+pub mod StartSteps
+pub mod BodySteps
 pub mod Nodes
 pub mod Leaves
 mod Parts

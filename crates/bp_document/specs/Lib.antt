@@ -7,3 +7,4 @@ pub mod Forms
 pub mod FormWords
 pub mod Places
 pub mod Faults
+pub mod Stages

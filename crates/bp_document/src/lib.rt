@@ -1,6 +1,7 @@
 //! Design documents: what they hold, and their text.
 #![tactic(auto)]
 
+mod body_step;
 mod cut;
 mod document;
 mod edge_step;
@@ -13,6 +14,9 @@ mod node_line;
 mod node_step;
 mod point_step;
 mod points;
+mod room;
+mod stage;
+mod start_step;
 mod write;
 
 pub use document::Document;
