@@ -7,6 +7,7 @@ pub mod EdgeSteps
 pub mod LineSteps
 pub mod StartSteps
 pub mod BodySteps
+pub mod EdgeStages
 pub mod Nodes
 pub mod Leaves
 mod Parts
