@@ -1,19 +1,15 @@
 -- The first condition that a document fails, in the order of the reasons.
-use Rattle.std.specs.Prelude.{◌≡◌, ◌⊎◌, ℕ, ◌<◌, ◌≤◌, List, [], length, Option, None, Some, slice_get}
-use Rattle.bp_base.specs.declared.point.Point.{Point}
+use Rattle.std.specs.Prelude.{◌≡◌, ◌⊎◌, ℕ, ◌<◌, List, length, Option, None, Some, slice_get}
 use Rattle.bp_base.specs.declared.point.Sheet.{Sheet}
-use Rattle.bp_base.specs.declared.path.Pair.{Pair}
 use Rattle.bp_base.specs.declared.path.Step.{Step}
 use Rattle.bp_base.specs.declared.refutation.Refutation.{Refutation}
-use Rattle.bp_base.specs.Tree.{TreeValue, IsLeaf, leaf_count}
-use Rattle.bp_base.specs.Point.{point_at, gap}
-use Rattle.bp_metric.specs.Distance.{leaf_dist}
-use Rattle.bp_metric.specs.Valid.{IsPair, Lies}
+use Rattle.bp_base.specs.Tree.{TreeValue, leaf_count}
 use Rattle.bp_metric.specs.Choices.{allowed}
 use Rattle.bp_metric.specs.Chains.{ClaimHolds}
 use Rattle.bp_metric.specs.Floor.{FloorHolds}
 use Rattle.bp_metric.specs.Refutation.{CanSplit}
 use Rattle.bp_metric.specs.Nodes.{Node, Part, SplitOf, ClosedBy, OpenBy, nodes_of}
+use Rattle.bp_pairs.specs.Flaws.{IsFirstOutside, AreFirstNear}
 use Rattle.bp_document.specs.declared.document.Document.{Document}
 use Rattle.bp_check.specs.declared.verdict.Reason.{Reason}
 use Rattle.bp_check.specs.declared.verdict.Reason.TheVariants.{TreeDiffers, Outside, TooNear, BadFloor, BadSplit, BadChain, BoundNotShown, StripSheet}
@@ -22,19 +18,6 @@ use Rattle.bp_check.specs.Checks.{IsBoundShown}
 -- no smaller number has the property
 abbrev pub IsLeast : (ℕ → Type 0) → ℕ → Type 0
 IsLeast P k = P k × ((l : ℕ) → l < k → P l → ⊥)
-
--- leaf i lies outside the sheet
-abbrev pub IsOutside : TreeValue → Document → ℕ → Type 0
-IsOutside T D i = IsLeaf T i × (Lies D.sheet 1 D.side (point_at D.points i) → ⊥)
-
--- leaves i and j are nearer than their distance
-abbrev pub AreTooNear : TreeValue → Document → ℕ → ℕ → Type 0
-AreTooNear T D i j = IsPair T i j × (gap (point_at D.points i) (point_at D.points j) < leaf_dist T i j)
-
--- leaves i and j are the first such pair
-pub record AreFirstNear (T : TreeValue) (D : Document) (i j : ℕ) : Type 0 where
-  pub near : AreTooNear T D i j
-  pub earlier : (k l : ℕ) → AreTooNear T D k l → (k < i) ⊎ ((k ≡ i) × (l < j)) → ⊥
 
 -- a split is bad where its pair is no pair of leaves or stands already on its path, or where it hasn't one child for each allowed choice
 abbrev pub IsBadSplit : TreeValue → Sheet → List Step → Part → Type 0
@@ -63,8 +46,8 @@ HasBadChain T G (Some r) k = HasAt (IsBadChain T G) (nodes_of T G r) k
 -- the conditions of each reason, without those before it
 abbrev pub Fails : TreeValue → Document → Reason → Type 0
 Fails T D TreeDiffers = D.tree ≡ T → ⊥
-Fails T D (Outside i) = IsLeast (IsOutside T D) i
-Fails T D (TooNear i j) = AreFirstNear T D i j
+Fails T D (Outside i) = IsFirstOutside T D.sheet D.side D.points i
+Fails T D (TooNear i j) = AreFirstNear T D.points i j
 Fails T D BadFloor = FloorHolds T D.sheet D.floor → ⊥
 Fails T D (BadSplit node) = IsLeast (HasBadSplit T D.sheet D.proof) node
 Fails T D (BadChain node) = IsLeast (HasBadChain T D.sheet D.proof) node
@@ -82,7 +65,8 @@ rank (BadChain node) = 5
 rank BoundNotShown = 6
 rank StripSheet = 7
 
--- the first reason why the document is no right design of T
+-- The first reason why the document is no right design of T. It speaks of a document with one point per leaf of its own tree:
+-- there one of them comes exactly where the document doesn't check.
 pub record IsFirstReason (T : TreeValue) (D : Document) (reason : Reason) : Type 0 where
   pub fails : Fails T D reason
   pub first : (other : Reason) → rank other < rank reason → Fails T D other → ⊥

@@ -1,5 +1,5 @@
 -- What every search ends with: no branch lost, each record sound, the least side found, and the budget spent where branches are left.
-use Rattle.std.specs.Prelude.{◌≡◌, ◌⊎◌, ℕ, ◌<◌, ◌≤◌, List, [], All, Any, length, map}
+use Rattle.std.specs.Prelude.{◌≡◌, ◌⊎◌, ℕ, ◌≤◌, List, [], All, Any, map}
 use Rattle.std.specs.List.{range_with_len}
 use Rattle.bp_base.specs.declared.point.Sheet.{Sheet}
 use Rattle.bp_base.specs.declared.record.Record.{Record}

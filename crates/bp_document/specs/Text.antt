@@ -1,7 +1,8 @@
 -- The text of a document, in both its versions.
-use Rattle.std.specs.Prelude.{ℕ, ◌+◌, ◌-◌, List, [], ◌∷◌, ◌++◌, decimal, codes, Option, None, Some}
+use Rattle.std.specs.Prelude.{◌≡◌, ℕ, ◌+◌, ◌-◌, List, [], ◌∷◌, ◌++◌, decimal, codes, Option, None, Some}
 use Rattle.std.specs.List.{flat_map, zip}
 use Rattle.bp_base.specs.declared.point.Point.{Point}
+use Rattle.bp_base.specs.declared.point.Sheet.TheVariants.{Square}
 use Rattle.bp_base.specs.declared.refutation.Refutation.{Refutation, fold-Refutation}
 use Rattle.bp_base.specs.declared.refutation.Refutation.TheOpen.{Refutation-F}
 use Rattle.bp_base.specs.Tree.{TreeValue, edges, name_of, node_count, leaf_nodes}
@@ -36,10 +37,14 @@ body_text D =
     edge_lines D.tree ++ line (codes "side") (decimal D.side ∷ []) ++ line (codes "bound") (decimal D.bound ∷ [])
     ++ point_lines D.tree D.points ++ floor_line D.floor ++ proof_lines D.proof ++ line (codes "end") []
 
--- the text in version 1, of a document whose sheet is a square
+-- the text in version 1, where the sheet is a square
 unfoldable pub first_text : Document → List ℕ
 first_text D = line (codes "boxpleat") (decimal 1 ∷ []) ++ body_text D
 
 -- the text in version 2, which is written
 unfoldable pub doc_text : Document → List ℕ
 doc_text D = line (codes "boxpleat") (decimal 2 ∷ []) ++ sheet_line D.sheet ++ body_text D
+
+-- the bytes are the document's text in version 1, which a strip doesn't have
+abbrev pub IsFirstText : Document → List ℕ → Type 0
+IsFirstText D bytes = (D.sheet ≡ Square) × (bytes ≡ first_text D)

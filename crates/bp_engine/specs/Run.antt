@@ -1,10 +1,11 @@
 -- What a run answers, and what it leaves.
-use Rattle.std.specs.Prelude.{◌≡◌, ℕ, ◌<◌, List, [], take, false}
+use Rattle.std.specs.Prelude.{◌≡◌, ℕ, ◌+◌, ◌<◌, List, [], take, drop, false}
 use Rattle.std.specs.declared.option.Option.{Option}
 use Rattle.std.specs.declared.option.Option.TheVariants.{None, Some}
 use Rattle.bp_base.specs.declared.point.Sheet.{Sheet}
 use Rattle.bp_base.specs.declared.point.Sheet.TheVariants.{Square, Strip}
 use Rattle.bp_base.specs.Causes.{Rose, Appends, AppendsFront}
+use Rattle.bp_base.specs.Limits.{most_tree_bytes}
 use Rattle.bp_base.specs.Tree.{TreeValue}
 use Rattle.bp_tree.specs.declared.fault.TreeFault.{TreeFault}
 use Rattle.bp_tree.specs.Text.{TreeOf}
@@ -80,15 +81,20 @@ DesignsBytes bytes G B held now WriteFault = (T : TreeValue) × TreeOf bytes T �
 DesignsBytes bytes G B held now NoMemory = now ≡ held
 DesignsBytes bytes G B held now NotBuilt = (T : TreeValue) × TreeOf bytes T × WritesDesign T G B held now NotBuilt
 
+-- as many bytes as are read of a tree: one more than it may have
+abbrev pub most_read : ℕ
+most_read = most_tree_bytes + 1
+
 -- The source was read to its end, and its bytes are a text of T, where it tells them.
 abbrev pub ReadsTree : Option (List ℕ) → Option (List ℕ) → TreeValue → Type 0
 ReadsTree left after T = Told left (λ b. TreeOf b T × (after ≡ Some []))
 
 -- What `design` has read and written with this status: what was left of the source before and after, what the sink held before and after.
--- A refused tree is judged by its bytes, read to the end or to byte 65,537.
+-- A refused tree is judged by its bytes, read to the end or to one byte past the limit.
 abbrev pub Designs : Sheet → ℕ → Option (List ℕ) → Option (List ℕ) → Option (List ℕ) → Option (List ℕ) → Status → Type 0
 Designs G B left after held now Done = (T : TreeValue) × ReadsTree left after T × WritesDesign T G B held now Done
-Designs G B left after held now (TreeRefused fault) = Told left (λ b. IsRefused (take 65537 b) fault) × (now ≡ held)
+Designs G B left after held now (TreeRefused fault) =
+    Told left (λ b. IsRefused (take most_read b) fault × (after ≡ Some (drop most_read b))) × (now ≡ held)
 Designs G B left after held now Usage = ⊥
 Designs G B left after held now ReadFault = now ≡ held
 Designs G B left after held now WriteFault = (T : TreeValue) × ReadsTree left after T × WritesDesign T G B held now WriteFault

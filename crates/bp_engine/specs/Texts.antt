@@ -1,4 +1,4 @@
--- What each status tells on the error output.
+-- What each status tells on the error output, and its number.
 use Rattle.std.specs.Prelude.{ℕ, List, [], ◌++◌, ◌∷◌, codes, decimal}
 use Rattle.bp_tree.specs.declared.fault.TreeKind.{TreeKind}
 use Rattle.bp_tree.specs.declared.fault.TreeKind.TheVariants.{TooLong, BadJson, BadShape, BadByte, WordCount, BadName, BadLength, UnknownParent, RepeatedName, TooManyNodes, Empty, RootIsLeaf, TooManyLeaves}
@@ -28,3 +28,13 @@ text_of ReadFault = codes "read fault\n"
 text_of WriteFault = codes "write fault\n"
 text_of NoMemory = codes "no memory\n"
 text_of NotBuilt = codes "not built\n"
+
+-- the number that the program ends with
+abbrev pub number_of : Status → ℕ
+number_of Done = 0
+number_of (TreeRefused fault) = 1
+number_of Usage = 2
+number_of ReadFault = 4
+number_of WriteFault = 5
+number_of NoMemory = 6
+number_of NotBuilt = 8

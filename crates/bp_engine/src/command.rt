@@ -42,6 +42,9 @@ pub fn run<R: Threads + Sync, T: Source, D: Source, K: Sink, F: Sink, E: Sink, G
 
     ensures told { Tells (E.held err.old) (E.held err.new) (E.faults err.old) (E.faults err.new) (text_of result) }
 
+    // Only these two write.
+    ensures unwritten { (result ≡ Status.Done → ⊥) → (result ≡ Status.WriteFault → ⊥) → out.new ≡ out.old }
+
     // A fault comes only where its count rose in this call.
     ensures read { result ≡ Status.ReadFault → Rose (T.faults tree.old) (T.faults tree.new) }
     ensures write { result ≡ Status.WriteFault → Rose (K.faults out.old) (K.faults out.new) }
@@ -61,6 +64,7 @@ fn answer<T: Source, K: Sink>(alloc: Global, words: &[String], tree: &mut T, out
     ensures unused { result ≡ Status.Usage → (tree.new ≡ tree.old) × (out.new ≡ out.old) }
     ensures unbuilt { (w : Words) → IsWords (map string_bytes words.now) w → IsUnbuilt w → (result ≡ Status.NotBuilt) × (tree.new ≡ tree.old) × (out.new ≡ out.old) }
     ensures design { (w : Words) → IsWords (map string_bytes words.now) w → (IsUnbuilt w → ⊥) → Answers w (T.left tree.old) (T.left tree.new) (K.held out.old) (K.held out.new) result }
+    ensures unwritten { (result ≡ Status.Done → ⊥) → (result ≡ Status.WriteFault → ⊥) → out.new ≡ out.old }
     ensures read { result ≡ Status.ReadFault → Rose (T.faults tree.old) (T.faults tree.new) }
     ensures write { result ≡ Status.WriteFault → Rose (K.faults out.old) (K.faults out.new) }
 {
@@ -77,6 +81,7 @@ fn do_asked<T: Source, K: Sink>(alloc: Global, words: Words, tree: &mut T, out: 
     ensures no_usage { result ≡ Status.Usage → ⊥ }
     ensures unbuilt { IsUnbuilt words → (result ≡ Status.NotBuilt) × (tree.new ≡ tree.old) × (out.new ≡ out.old) }
     ensures design { (IsUnbuilt words → ⊥) → Answers words (T.left tree.old) (T.left tree.new) (K.held out.old) (K.held out.new) result }
+    ensures unwritten { (result ≡ Status.Done → ⊥) → (result ≡ Status.WriteFault → ⊥) → out.new ≡ out.old }
     ensures read { result ≡ Status.ReadFault → Rose (T.faults tree.old) (T.faults tree.new) }
     ensures write { result ≡ Status.WriteFault → Rose (K.faults out.old) (K.faults out.new) }
 {

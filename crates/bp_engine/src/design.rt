@@ -30,6 +30,7 @@ pub fn design<T: Source, K: Sink>(
     requires { IsSheet sheet }
     ensures designs { (B : ℕ) → Designs sheet B (T.left source.old) (T.left source.new) (K.held out.old) (K.held out.new) result }
     ensures no_usage { result ≡ Status.Usage → ⊥ }
+    ensures unwritten { (result ≡ Status.Done → ⊥) → (result ≡ Status.WriteFault → ⊥) → out.new ≡ out.old }
     ensures read { result ≡ Status.ReadFault → Rose (T.faults source.old) (T.faults source.new) }
     ensures write { result ≡ Status.WriteFault → Rose (K.faults out.old) (K.faults out.new) }
 {
@@ -44,6 +45,7 @@ pub fn design<T: Source, K: Sink>(
 fn design_bytes<K: Sink>(alloc: Global, sheet: Sheet, bytes: &[u8], out: &mut K) -> Status
     requires { IsSheet sheet }
     ensures designs { (B : ℕ) → DesignsBytes bytes.now sheet B (K.held out.old) (K.held out.new) result }
+    ensures unwritten { (result ≡ Status.Done → ⊥) → (result ≡ Status.WriteFault → ⊥) → out.new ≡ out.old }
     ensures write { result ≡ Status.WriteFault → Rose (K.faults out.old) (K.faults out.new) }
 {
     match read_tree(alloc, bytes) {
@@ -57,6 +59,7 @@ fn design_bytes<K: Sink>(alloc: Global, sheet: Sheet, bytes: &[u8], out: &mut K)
 fn write_design<K: Sink>(alloc: Global, sheet: Sheet, tree: Tree, out: &mut K) -> Status
     requires { IsSheet sheet }
     ensures designs { (B : ℕ) → WritesDesign tree sheet B (K.held out.old) (K.held out.new) result }
+    ensures unwritten { (result ≡ Status.Done → ⊥) → (result ≡ Status.WriteFault → ⊥) → out.new ≡ out.old }
     ensures write { result ≡ Status.WriteFault → Rose (K.faults out.old) (K.faults out.new) }
 {
     match written(alloc, sheet, tree) {

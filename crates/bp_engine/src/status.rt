@@ -20,8 +20,13 @@ pub enum Status {
 }
 
 impl Status {
+    ghost use Rattle.std.specs.Prelude.{◌≡◌};
+    ghost use Rattle.bp_engine.specs.Texts.{number_of};
+
     /// The number that the program ends with.
-    pub fn number(self) -> u8 {
+    pub fn number(self) -> u8
+        ensures { result ≡ number_of self }
+    {
         match self {
             Status::Done => 0,
             Status::TreeRefused(_) => 1,

@@ -128,6 +128,13 @@ fn designs_without_a_search(rt: HostRuntime) -> Result<(), Fail> {
         ),
         (
             "design",
+            r#"{"edges":[["c","p",1],["c","q",1],["c","r",1],["c","s",1]]}"#,
+            0,
+            "boxpleat 2\nsheet square\nedges 4\nedge c p 1\nedge c q 1\nedge c r 1\nedge c s 1\nside 2\nbound 2\npoint p 0 0\npoint q 0 2\npoint r 2 0\npoint s 2 2\nfloor 2 2 1 2 3 4\nproof none\nend\n",
+            "",
+        ),
+        (
+            "design",
             "# star\r\nc\tp 1\r\n  c q  1 # second\r\n\r\nc r 1\nc s 1",
             0,
             "boxpleat 2\nsheet square\nedges 4\nedge c p 1\nedge c q 1\nedge c r 1\nedge c s 1\nside 2\nbound 2\npoint p 0 0\npoint q 0 2\npoint r 2 0\npoint s 2 2\nfloor 2 2 1 2 3 4\nproof none\nend\n",
@@ -206,6 +213,14 @@ fn refusals(rt: HostRuntime) -> Result<(), Fail> {
         ("design", "c p\n", 1, "", "tree: line 1: WordCount\n"),
         ("design", "c p! 1\n", 1, "", "tree: line 1: BadName\n"),
         ("design", "", 1, "", "tree: line 0: Empty\n"),
+        (
+            "design",
+            r#"{"edges":[["c","p",1.5],["c","q",1],["c","r",1],["c","s",1]]}"#,
+            1,
+            "",
+            "tree: line 0: BadShape\n",
+        ),
+        ("design", r#"{"edges":["#, 1, "", "tree: line 0: BadJson\n"),
         (
             "design",
             "\nc p 1\u{7f}\n",

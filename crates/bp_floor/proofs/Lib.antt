@@ -4,4 +4,3 @@ mod Walks
 mod Choice
 mod BoxCounts
 mod Worked
-mod Sampled

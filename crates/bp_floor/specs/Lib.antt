@@ -1,4 +1,3 @@
 pub mod Small
 pub mod Best
 pub mod Lists
-pub mod Samples

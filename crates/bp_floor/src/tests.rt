@@ -1,7 +1,7 @@
 // Floors of worked trees.
 ghost use Rattle.std.specs.Prelude.{◌≡◌, ◌≤◌, IsTrue, IfOk};
 ghost use Rattle.bp_metric.specs.Metric.{IsSheet};
-ghost use Rattle.bp_floor.specs.Samples.{is_sample, letters};
+ghost use Rattle.bp_metric.specs.Samples.{is_sample, letters};
 
 use crate::{floor, floor_holds, has_floor, law_of_floors, one_floor};
 use bp_base::{Floor, Name, NoMemory, Sequence, Sheet, Tree};

@@ -8,6 +8,7 @@ use Rattle.bp_base.specs.declared.path.Pair.{Pair}
 use Rattle.bp_base.specs.declared.path.Step.{Step}
 use Rattle.bp_base.specs.declared.chain.Claim.{Claim}
 use Rattle.bp_base.specs.declared.chain.Claim.TheVariants.{Walk, Cycle}
+use Rattle.bp_base.specs.Path.{IsPairOf}
 use Rattle.bp_base.specs.Tree.{TreeValue}
 use Rattle.bp_metric.specs.Distance.{leaf_dist}
 
@@ -21,6 +22,10 @@ PlacesBy Y a b p Left = ⊥
 PlacesBy Y a b p Right = ⊥
 PlacesBy Y a b p Below = (a ≡ p.i) × (b ≡ p.j)
 PlacesBy Y a b p Above = (a ≡ p.j) × (b ≡ p.i)
+
+-- each pair of the path is a pair of n leaves
+abbrev pub HasPairsOf : ℕ → List Step → Type 0
+HasPairsOf n path = All (λ (s : Step). IsPairOf n s.pair) path
 
 -- some step of the path places leaf a before leaf b
 abbrev pub Places : List Step → Axis → ℕ → ℕ → Type 0

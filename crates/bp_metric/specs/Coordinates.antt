@@ -1,5 +1,5 @@
 -- Least coordinates of a path: the greatest weights of its chains; the side that it forces, and the chain that shows it.
-use Rattle.std.specs.Prelude.{◌≡◌, ◌⊎◌, ℕ, ◌+◌, ◌<◌, ◌≤◌, List, [], ◌∷◌}
+use Rattle.std.specs.Prelude.{◌≡◌, ◌⊎◌, ℕ, ◌+◌, ◌-◌, ◌<◌, ◌≤◌, List, [], ◌∷◌, length, slice_index, All}
 use Rattle.bp_base.specs.declared.point.Axis.{Axis}
 use Rattle.bp_base.specs.declared.point.Axis.TheVariants.{X, Y}
 use Rattle.bp_base.specs.declared.point.Sheet.{Sheet}
@@ -7,10 +7,13 @@ use Rattle.bp_base.specs.declared.point.Sheet.TheVariants.{Square, Strip}
 use Rattle.bp_base.specs.declared.path.Step.{Step}
 use Rattle.bp_base.specs.declared.chain.Claim.{Claim}
 use Rattle.bp_base.specs.declared.chain.Claim.TheVariants.{Walk, Cycle}
+use Rattle.bp_base.specs.declared.record.Least.{Least}
+use Rattle.bp_base.specs.declared.record.Walked.{Walked}
+use Rattle.bp_base.specs.declared.record.Walked.TheVariants.{Fine, Cycle as Found}
 use Rattle.bp_base.specs.Limits.{most_number}
-use Rattle.bp_base.specs.Tree.{TreeValue, leaf_count}
+use Rattle.bp_base.specs.Tree.{TreeValue, IsLeaf, leaf_count}
 use Rattle.bp_metric.specs.Distance.{leaf_dist}
-use Rattle.bp_metric.specs.Chains.{Places, IsChain, IsCycle, HasCycle, chain_weight, first_of, last_of}
+use Rattle.bp_metric.specs.Chains.{Places, IsChain, IsCycle, HasCycle, HasCycleOn, chain_weight, first_of, last_of}
 
 -- v is the greatest weight of a chain that ends at leaf i
 pub record IsLow (T : TreeValue) (path : List Step) (axis : Axis) (i v : ℕ) : Type 0 where
@@ -51,6 +54,13 @@ IsShownOn T Square path X = (v : ℕ) × IsGreatest T path v × IsGreatestOn T p
 IsShownOn T Square path Y = (v : ℕ) × IsGreatest T path v × (IsGreatestOn T path X v → ⊥)
 IsShownOn T (Strip width) path X = IsTooWide T path width
 IsShownOn T (Strip width) path Y = IsTooWide T path width → ⊥
+
+-- the axis that is shown and the side that is forced, from the greatest weights x and y on the axes
+abbrev pub IsForcedBy : Sheet → ℕ → ℕ → Axis → ℕ → Type 0
+IsForcedBy Square x y X v = (y ≤ x) × (v ≡ x)
+IsForcedBy Square x y Y v = (x < y) × (v ≡ y)
+IsForcedBy (Strip width) x y X v = (width < x) × (v ≡ most_number)
+IsForcedBy (Strip width) x y Y v = (x ≤ width) × (v ≡ y)
 
 -- i is the least-numbered leaf with the greatest low coordinate on the axis
 pub record IsShownLast (T : TreeValue) (path : List Step) (axis : Axis) (i : ℕ) : Type 0 where
@@ -93,3 +103,29 @@ IsShown T G path (Cycle axis chain) = ⊥
 abbrev pub IsShownOrCycle : TreeValue → Sheet → List Step → Claim → Type 0
 IsShownOrCycle T G path (Walk axis chain) = IsShownWalk T G path axis chain
 IsShownOrCycle T G path (Cycle axis chain) = IsCycle (leaf_count T) path axis chain
+
+-- the least coordinates of a path without a cycle, leaf by leaf, with what it forces and shows
+pub record IsLeast (T : TreeValue) (G : Sheet) (path : List Step) (l : Least) : Type 0 where
+  pub no_cycle : HasCycle (leaf_count T) path → ⊥
+  pub xs_each : length l.xs ≡ leaf_count T
+  pub ys_each : length l.ys ≡ leaf_count T
+  pub xs : (i : ℕ) → IsLeaf T i → IsLow T path X i (slice_index l.xs (i - 1))
+  pub ys : (i : ℕ) → IsLeaf T i → IsLow T path Y i (slice_index l.ys (i - 1))
+  pub forced : IsForced T G path l.forced
+  pub claim : IsShown T G path l.claim
+
+-- a cycle that begins with its least leaf
+pub record IsLoop (n : ℕ) (path : List Step) (axis : Axis) (leaves : List ℕ) : Type 0 where
+  pub cycle : IsCycle n path axis leaves
+  pub first : All (λ i. first_of leaves ≤ i) leaves
+
+-- the claim is a cycle of the path that begins with its least leaf, on x where x has one
+abbrev pub IsCycleShown : ℕ → List Step → Claim → Type 0
+IsCycleShown n path (Walk axis chain) = ⊥
+IsCycleShown n path (Cycle X chain) = IsLoop n path X chain
+IsCycleShown n path (Cycle Y chain) = IsLoop n path Y chain × (HasCycleOn n path X → ⊥)
+
+-- what walking a path gives: its least coordinates where it has no cycle, else a cycle
+abbrev pub IsWalked : TreeValue → Sheet → List Step → Walked → Type 0
+IsWalked T G path (Fine l) = IsLeast T G path l
+IsWalked T G path (Found claim) = IsCycleShown (leaf_count T) path claim

@@ -10,6 +10,7 @@ pub mod Opening
 pub mod Floor
 pub mod Refutation
 pub mod Nodes
+pub mod Samples
 pub mod Stated
 pub mod Records
 pub mod Steady

@@ -8,3 +8,7 @@ pub mod FirstLeaves
 pub mod SettlingLaw
 pub mod Within
 pub mod OneHanding
+pub mod Obeyed
+pub mod Least
+pub mod FarApart
+pub mod Refuting

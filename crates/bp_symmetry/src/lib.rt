@@ -8,7 +8,7 @@ mod settling;
 mod turn;
 mod twins;
 
-pub use laws::{law_of_settling, one_settling};
+pub use laws::{law_of_refutations, law_of_settling, one_settling, refutation_counts};
 pub use settling::settle;
 
 #[cfg(test)]

@@ -57,6 +57,8 @@ fn settled(metric: &Metric, side: u64, points: &mut [Point]) -> Result<(), Fail>
     settle(metric, side, points);
     law_of_settling(metric);
     one_settling(metric);
+    law_of_refutations(metric);
+    refutation_counts(metric);
     Ok(())
 }
 

@@ -6,9 +6,9 @@ use Rattle.bp_tree.specs.declared.edge.Edge.{Edge}
 use Rattle.bp_tree.specs.declared.fault.TreeKind.{TreeKind}
 use Rattle.bp_tree.specs.declared.fault.TreeKind.TheVariants.{TooLong, BadJson, BadShape, BadByte, WordCount, BadName, BadLength, UnknownParent, RepeatedName, TooManyNodes, Empty, RootIsLeaf, TooManyLeaves}
 use Rattle.bp_tree.specs.Lines.{words_of, word}
-use Rattle.bp_tree.specs.Edges.{edge_words}
-use Rattle.bp_tree.specs.Faults.{HasKind, IsKind, LacksUpper, RepeatsLower, IsFull, order}
-use Rattle.bp_tree.specs.Growing.{AddsEdge, AddsLine, IsEdgeLine}
+use Rattle.bp_tree.specs.Edges.{edge_words, IsLength}
+use Rattle.bp_tree.specs.Faults.{HasKind, IsKind, HasElementKind, IsElementKind, LacksUpper, RepeatsLower, IsFull, order}
+use Rattle.bp_tree.specs.Growing.{AddsEdge, AddsLine, AddsElement, IsEdgeLine, JudgesElement}
 
 module _ (line : List ℕ) (e : Edge) (is : IsEdgeLine line e) (names : List (List ℕ)) where
   word_is : (i : ℕ) → word (words_of line) i ≡ word (edge_words e) i
@@ -99,3 +99,70 @@ line_added T T' line e (Err kind) is adds = (some, go kind adds)
     go Empty h = absurd h
     go RootIsLeaf h = absurd h
     go TooManyLeaves h = absurd h
+
+-- an element that is well spelled
+module _ (names : List (List ℕ)) (e : Edge) (upper : IsName e.upper) (lower : IsName e.lower) (long : IsLength e.length) where
+  spelled : (kind : TreeKind) → order kind < 5 → HasElementKind names e kind → ⊥
+  spelled BadName early bad = bad (upper, lower)
+  spelled BadLength early bad = bad long
+  spelled UnknownParent early bad = omega arith
+  spelled RepeatedName early bad = omega arith
+  spelled TooManyNodes early bad = omega arith
+  spelled BadByte early bad = bad
+  spelled WordCount early bad = bad
+  spelled TooLong early bad = bad
+  spelled BadJson early bad = bad
+  spelled BadShape early bad = bad
+  spelled Empty early bad = bad
+  spelled RootIsLeaf early bad = bad
+  spelled TooManyLeaves early bad = bad
+
+  before_repeated : (LacksUpper names e.upper → ⊥) → (kind : TreeKind) → order kind < 6 → HasElementKind names e kind → ⊥
+  before_repeated known UnknownParent early bad = known bad
+  before_repeated known BadName early bad = spelled BadName (omega arith) bad
+  before_repeated known BadLength early bad = spelled BadLength (omega arith) bad
+  before_repeated known RepeatedName early bad = omega arith
+  before_repeated known TooManyNodes early bad = omega arith
+  before_repeated known BadByte early bad = bad
+  before_repeated known WordCount early bad = bad
+  before_repeated known TooLong early bad = bad
+  before_repeated known BadJson early bad = bad
+  before_repeated known BadShape early bad = bad
+  before_repeated known Empty early bad = bad
+  before_repeated known RootIsLeaf early bad = bad
+  before_repeated known TooManyLeaves early bad = bad
+
+  before_many : (LacksUpper names e.upper → ⊥) → (RepeatsLower names e.upper e.lower → ⊥) → (kind : TreeKind) → order kind < 7 → HasElementKind names e kind → ⊥
+  before_many known new RepeatedName early bad = new bad
+  before_many known new UnknownParent early bad = known bad
+  before_many known new BadName early bad = spelled BadName (omega arith) bad
+  before_many known new BadLength early bad = spelled BadLength (omega arith) bad
+  before_many known new TooManyNodes early bad = omega arith
+  before_many known new BadByte early bad = bad
+  before_many known new WordCount early bad = bad
+  before_many known new TooLong early bad = bad
+  before_many known new BadJson early bad = bad
+  before_many known new BadShape early bad = bad
+  before_many known new Empty early bad = bad
+  before_many known new RootIsLeaf early bad = bad
+  before_many known new TooManyLeaves early bad = bad
+
+refused : (T T' : TreeValue) (e : Edge) (kind : TreeKind) → IsName e.upper → IsName e.lower → IsLength e.length → AddsEdge T e T' (Err kind) → IsElementKind T.names e kind
+refused T T' e UnknownParent upper lower long h = record { has = h; first = spelled T.names e upper lower long }
+refused T T' e RepeatedName upper lower long h = record { has = h.1; first = before_repeated T.names e upper lower long h.0 }
+refused T T' e TooManyNodes upper lower long h = record { has = h.2; first = before_many T.names e upper lower long h.0 h.1 }
+refused T T' e BadByte upper lower long h = absurd h
+refused T T' e WordCount upper lower long h = absurd h
+refused T T' e BadName upper lower long h = absurd h
+refused T T' e BadLength upper lower long h = absurd h
+refused T T' e TooLong upper lower long h = absurd h
+refused T T' e BadJson upper lower long h = absurd h
+refused T T' e BadShape upper lower long h = absurd h
+refused T T' e Empty upper lower long h = absurd h
+refused T T' e RootIsLeaf upper lower long h = absurd h
+refused T T' e TooManyLeaves upper lower long h = absurd h
+
+pub element_added : (T T' : TreeValue) (x e : Edge) (r : Result Unit TreeKind) → JudgesElement x (Ok e) → AddsEdge T e T' r → AddsElement T x T' r
+element_added T T' x e (Ok done) (is, upper, lower, long) adds = subst (λ (y : Edge). AddsElement T y T' (Ok done)) is adds
+element_added T T' x e (Err kind) (is, upper, lower, long) adds =
+    refused T T' x kind upper lower long (subst (λ (y : Edge). AddsEdge T y T' (Err kind)) is adds)

@@ -9,7 +9,7 @@ use Rattle.bp_tree.specs.declared.fault.TreeKind.{TreeKind}
 use Rattle.bp_tree.specs.declared.fault.TreeKind.TheVariants.{TooLong, BadJson, BadShape, BadByte, WordCount, BadName, BadLength, UnknownParent, RepeatedName, TooManyNodes, Empty, RootIsLeaf, TooManyLeaves}
 use Rattle.bp_tree.specs.Lines.{content, words_of, rows, word}
 use Rattle.bp_tree.specs.Edges.{HasEdges, IsGrowing, IsLength, edge_words, uppers, lowers, lengths}
-use Rattle.bp_tree.specs.Faults.{HasKind, HasFault, LacksUpper, RepeatsLower, IsFull, line_at, names_of}
+use Rattle.bp_tree.specs.Faults.{HasKind, HasFault, IsElementKind, IsFirstElementFault, LacksUpper, RepeatsLower, IsFull, line_at, names_of, HasElementKind, HasElementFault, element_at}
 use Rattle.bp_tree.specs.Growing.{GrewFrom}
 use Rattle.bp_tree.proofs.Rows.{rows_append, rows_cons, names_edges, Parted, parted}
 use Rattle.bp_tree.proofs.TextBytes.{text_bytes}
@@ -119,6 +119,21 @@ module _ (T : TreeValue) (t : IsGrowing T) (front back : List Edge) (e : Edge) (
       go [] none = omega (arith, full, ap length (no_names none))
       go (f ∷ fs) some = omega (arith, full, name_count f fs some, nodes, t.nodes)
 
+  pub element_faultless : (kind : TreeKind) → HasElementKind names e kind → ⊥
+  element_faultless BadName bad = bad (good_upper, good_lower)
+  element_faultless BadLength bad = bad good_length
+  element_faultless UnknownParent bad = known bad
+  element_faultless RepeatedName bad = new bad
+  element_faultless TooManyNodes bad = room bad
+  element_faultless TooLong bad = bad
+  element_faultless BadJson bad = bad
+  element_faultless BadShape bad = bad
+  element_faultless BadByte bad = bad
+  element_faultless WordCount bad = bad
+  element_faultless Empty bad = bad
+  element_faultless RootIsLeaf bad = bad
+  element_faultless TooManyLeaves bad = bad
+
   module _ (line : List ℕ) (is : words_of line ≡ edge_words e) where
     word_is : (i : ℕ) → word (words_of line) i ≡ word (edge_words e) i
     word_is i = ap (λ (ws : List (List ℕ)). word ws i) is
@@ -138,12 +153,12 @@ module _ (T : TreeValue) (t : IsGrowing T) (front back : List Edge) (e : Edge) (
     faultless RootIsLeaf bad = bad
     faultless TooManyLeaves bad = bad
 
--- a line among those that were taken
-around : (lines : List (List ℕ)) (n j : ℕ) → n ≤ length lines → j < n → take n lines ≡ take j lines ++ get_or lines j [] ∷ drop (j + 1) (take n lines)
-around lines n j fits less =
-    let long : j < length (take n lines) = omega (arith, length-take-le n lines fits, less) in
-    sym (take-append-drop j (take n lines)) ∙ ap (λ (l : List (List ℕ)). l ++ drop j (take n lines)) (take-take j n lines (omega arith))
-    ∙ ap (λ (l : List (List ℕ)). take j lines ++ l) (drop_more (take n lines) j [] long ∙ ap (λ (x : List ℕ). x ∷ drop (j + 1) (take n lines)) (get_or-take n lines j [] less))
+-- what stands at a place, among what was taken
+around : {A : Type 0} (xs : List A) (n j : ℕ) (d : A) → n ≤ length xs → j < n → take n xs ≡ take j xs ++ get_or xs j d ∷ drop (j + 1) (take n xs)
+around {A} xs n j d fits less =
+    let long : j < length (take n xs) = omega (arith, length-take-le n xs fits, less) in
+    sym (take-append-drop j (take n xs)) ∙ ap (λ (l : List A). l ++ drop j (take n xs)) (take-take j n xs (omega arith))
+    ∙ ap (λ (l : List A). take j xs ++ l) (drop_more (take n xs) j d long ∙ ap (λ (x : A). x ∷ drop (j + 1) (take n xs)) (get_or-take n xs j d less))
 
 -- an edge's line has no fault behind the edges before it
 line_faultless : (T : TreeValue) → IsGrowing T → (es : List Edge) → HasEdges T es → (before after : List (List ℕ)) (x : List ℕ) → rows before ++ words_of x ∷ rows after ≡ map edge_words es → (kind : TreeKind) → HasKind (names_of (rows before)) x kind → ⊥
@@ -163,6 +178,25 @@ no_fault lines n T t fits (es, given, has) m kind before (row, fault) = go (m - 
         let x_is : line_at lines m ≡ get_or lines j [] = ap (λ (i : ℕ). get_or lines i []) is in
         let some : words_of (get_or lines j []) ≡ [] → ⊥ = λ none. row.worded (ap words_of x_is ∙ none) in
         let split : rows (take n lines) ≡ rows (take j lines) ++ words_of (get_or lines j []) ∷ rows (drop (j + 1) (take n lines)) =
-        ap rows (around lines n j fits less) ∙ rows_append (take j lines) (get_or lines j [] ∷ drop (j + 1) (take n lines)) ∙ ap (λ (r : List (List (List ℕ))). rows (take j lines) ++ r) (rows_cons (get_or lines j []) (drop (j + 1) (take n lines)) some) in
+        ap rows (around lines n j [] fits less) ∙ rows_append (take j lines) (get_or lines j [] ∷ drop (j + 1) (take n lines)) ∙ ap (λ (r : List (List (List ℕ))). rows (take j lines) ++ r) (rows_cons (get_or lines j []) (drop (j + 1) (take n lines)) some) in
         let fault' = subst (λ (i : ℕ). HasKind (names_of (rows (take i lines))) (get_or lines i []) kind) is fault in
         line_faultless T t es has (take j lines) (drop (j + 1) (take n lines)) (get_or lines j []) (sym split ∙ given) kind fault'
+
+-- none of the first n elements has a fault, where they are the edges of a growing tree
+pub no_element_fault : (es : List Edge) (n : ℕ) (T : TreeValue) → IsGrowing T → n ≤ length es → HasEdges T (take n es) → (m : ℕ) (kind : TreeKind) → m ≤ n → HasElementFault es m kind → ⊥
+no_element_fault es n T t fits has m kind before (within, fault) =
+    let j = m - 1 in
+    let less : m - 1 < n = omega (arith, within.0) in
+    element_faultless T t (take j es) (drop (j + 1) (take n es)) (element_at es m) (subst (HasEdges T) (around es n j (record { upper = []; lower = []; length = 0 }) fits less) has) kind fault
+
+-- the first fault of elements, behind those that are the edges of a growing tree
+pub first_element_fault : (es : List Edge) (k n : ℕ) (T : TreeValue) (kind : TreeKind) (e : Edge) → IsGrowing T → k < length es → n ≡ k + 1 → HasEdges T (take k es) → get_or es k (record { upper = []; lower = []; length = 0 }) ≡ e → IsElementKind T.names e kind → IsFirstElementFault es n kind
+first_element_fault es k n T kind e t less count has here bad =
+    let back : k ≡ n - 1 = omega arith in
+    let has' : HasEdges T (take (n - 1) es) = subst (λ (j : ℕ). HasEdges T (take j es)) back has in
+    let at : IsElementKind T.names (element_at es n) kind = subst (λ (x : Edge). IsElementKind T.names x kind) (sym here ∙ ap (λ (j : ℕ). get_or es j (record { upper = []; lower = []; length = 0 })) back) bad in
+    record {
+      element = (omega arith, omega arith);
+      has = subst (λ (ns : List (List ℕ)). IsElementKind ns (element_at es n) kind) has'.names at;
+      before = λ m other earlier had. no_element_fault es k T t (omega arith) has m other (omega arith) had;
+    }

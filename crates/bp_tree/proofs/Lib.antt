@@ -1,6 +1,7 @@
 pub mod WordLists
 pub mod LineLists
 pub mod Growth
+pub mod JsonForm
 pub mod TwoLeaves
 pub mod Rows
 pub mod TextBytes
@@ -8,6 +9,7 @@ pub mod Adding
 pub mod Faultless
 pub mod OneTree
 pub mod SoFar
+pub mod Given
 pub mod Whole
 pub mod ReadBack
 pub mod OneFault

@@ -1,5 +1,5 @@
 -- The canonical text of a tree is a text of it.
-use Rattle.std.proofs.Common.{◌≡◌, ◌≢◌, ℕ, zero, suc, ◌+◌, ◌-◌, ◌*◌, ◌^◌, ◌<◌, ◌≤◌, Bool, true, false, cond, ◌==◌, List, [], ◌∷◌, ◌++◌, length, get_or, take, drop, map, All, decimal, refl, sym, ◌∙◌, ap, arith}
+use Rattle.std.proofs.Common.{◌≡◌, ◌≢◌, ℕ, zero, suc, ◌+◌, ◌-◌, ◌*◌, ◌^◌, ◌<◌, ◌≤◌, Bool, true, false, cond, ◌==◌, List, [], ◌∷◌, ◌++◌, length, get_or, take, drop, map, All, decimal, refl, sym, ◌∙◌, ap, subst, arith}
 use Rattle.std.specs.List.{flat_map, range_with_len, before_first, AllByRecursion}
 use Rattle.std.specs.Str.Lines.{strip_carriage_return}
 use Rattle.std.proofs.lemmas.Bool.{ne_eqb}
@@ -15,7 +15,9 @@ use Rattle.bp_base.specs.Tree.{TreeValue, IsTree, edges, parent, length_of, name
 use Rattle.bp_tree.specs.declared.edge.Edge.{Edge}
 use Rattle.bp_tree.specs.Lines.{lines_of, content, words, words_of, rows, is_blank}
 use Rattle.bp_tree.specs.Edges.{HasEdges, IsLength, edge_words, uppers, lowers}
-use Rattle.bp_tree.specs.Text.{TreeOf, tree_line, tree_text}
+use Rattle.bp_tree.specs.Text.{GivesIn, TreeOf, tree_line, tree_text}
+use Rattle.bp_tree.specs.Json.{is_space, is_json}
+use Rattle.bp_tree.proofs.JsonForm.{json_first}
 use Rattle.bp_tree.proofs.LineLists.{lines_lf, lines_none}
 use Rattle.bp_tree.proofs.WordLists.{word_then, word_last, words_blank}
 use Rattle.bp_tree.proofs.Rows.{rows_cons}
@@ -110,6 +112,15 @@ twice : {A B C : Type 0} (f : B → C) (g : A → B) (xs : List A) → map f (ma
 twice f g [] = refl
 twice f g (x ∷ xs) = ap (λ ys. f (g x) ∷ ys) (twice f g xs)
 
+-- what begins with a name is no JSON
+name_first : (w rest : List ℕ) → IsName w → is_json (w ++ rest) ≡ false
+name_first [] rest is = absurd (omega (arith, is.some))
+name_first (b ∷ w) rest is =
+    let named : is_name_byte b ≡ true = is.spelled 0 0 (omega arith) in
+    let space : is_space b ≡ false = grind (arith, nat_tests) in
+    let other : (b == 123) ≡ false = grind (arith, nat_tests) in
+    json_first b (w ++ rest) space ∙ other
+
 head_names : (names : List (List ℕ)) → 1 ≤ length names → names ≡ get_or names 0 [] ∷ drop 1 names
 head_names [] some = absurd (omega arith)
 head_names (n ∷ ns) some = refl
@@ -171,6 +182,18 @@ module _ (T : TreeValue) (t : IsTree T) where
     lengths = at_edges T.lengths (length_of T) 0 t.lengths_as_parents (λ k. refl) ∙ sym (twice (λ (e : Edge). e.length) edge_of ks);
   }
 
+  -- the text begins with a name
+  not_json : is_json (tree_text T) ≡ false
+  unfolding tree_text
+  not_json =
+      let many : length T.parents - 1 ≡ suc (length T.parents - 2) = omega (arith, nodes) in
+      let root : parent T 1 < length T.names = omega (arith, t.parents_before 1 (omega arith) (omega (arith, nodes)), t.names_as_parents, nodes) in
+      let more = flat_map (tree_line T) (range_with_len 2 (length T.parents - 2)) in
+      let behind = 32 ∷ (name_of T 1 ++ 32 ∷ (decimal (length_of T 1) ++ 10 ∷ more)) in
+      let text : tree_line T 1 ++ more ≡ name_of T (parent T 1) ++ behind = simp append_assoc in
+      ap (λ (n : ℕ). is_json (flat_map (tree_line T) (range_with_len 1 n))) many ∙ ap is_json text
+      ∙ name_first (name_of T (parent T 1)) behind (All-get_or IsName T.names (parent T 1) [] root t.names_spelled)
+
   -- the edges of T are these
   pub edges_are : (fs : List Edge) → HasEdges T fs → fs ≡ map edge_of (edges T)
   edges_are fs has = one_edges T fs (map edge_of (edges T)) has has_edges
@@ -183,6 +206,6 @@ module _ (T : TreeValue) (t : IsTree T) where
         short = omega (arith, text.1, length-range_with_len 1 (length T.parents - 1), t.nodes);
         tree = t;
         given = es;
-        gives = text.0;
+        gives = subst (λ (form : Bool). GivesIn form (tree_text T) es) (sym not_json) text.0;
         has = has_edges;
       }

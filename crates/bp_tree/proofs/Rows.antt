@@ -31,13 +31,13 @@ rows_more lines n less = ap rows (take_more lines n [] less) ∙ rows_append (ta
 
 -- the names of rows that are edges
 pub names_edges : (es : List Edge) → names_of (map edge_words es) ≡ take 1 (uppers es) ++ lowers es
-names_edges es = ap (λ (us : List (List ℕ)). take 1 us ++ map (λ row. word row 1) (map edge_words es)) (firsts es) ∙ ap (λ (ls : List (List ℕ)). take 1 (uppers es) ++ ls) (seconds es)
+names_edges es = ap (λ (us : List (List ℕ)). take 1 us ++ map (λ words. word words 1) (map edge_words es)) (firsts es) ∙ ap (λ (ls : List (List ℕ)). take 1 (uppers es) ++ ls) (seconds es)
   where
-    firsts : (fs : List Edge) → map (λ row. word row 0) (map edge_words fs) ≡ uppers fs
+    firsts : (fs : List Edge) → map (λ words. word words 0) (map edge_words fs) ≡ uppers fs
     firsts [] = refl
     firsts (f ∷ fs) = ap (λ (us : List (List ℕ)). f.upper ∷ us) (firsts fs)
 
-    seconds : (fs : List Edge) → map (λ row. word row 1) (map edge_words fs) ≡ lowers fs
+    seconds : (fs : List Edge) → map (λ words. word words 1) (map edge_words fs) ≡ lowers fs
     seconds [] = refl
     seconds (f ∷ fs) = ap (λ (ls : List (List ℕ)). f.lower ∷ ls) (seconds fs)
 

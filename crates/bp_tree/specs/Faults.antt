@@ -1,5 +1,5 @@
 -- The first fault of bytes that are no tree.
-use Rattle.std.specs.Prelude.{◌≡◌, ◌≢◌, ◌⊎◌, ℕ, ◌-◌, ◌<◌, ◌≤◌, List, [], ◌++◌, length, map, take, IsTrue, slice_index_or, All, Contains, Result, Ok, Err}
+use Rattle.std.specs.Prelude.{◌≡◌, ◌≢◌, ◌⊎◌, ℕ, ◌-◌, ◌<◌, ◌≤◌, List, [], ◌++◌, length, map, take, Bool, true, false, IsTrue, slice_index_or, All, Contains, Result, Ok, Err}
 use Rattle.bp_base.specs.Limits.{most_nodes, most_leaves, most_tree_bytes}
 use Rattle.bp_base.specs.Name.{IsName}
 use Rattle.bp_base.specs.Tree.{TreeValue, leaf_count}
@@ -11,7 +11,8 @@ use Rattle.bp_tree.specs.declared.fault.TreeFault.{TreeFault}
 use Rattle.bp_tree.specs.declared.fault.ReadTree.{ReadTree}
 use Rattle.bp_tree.specs.declared.fault.ReadTree.TheVariants.{Fault, NoMemory}
 use Rattle.bp_tree.specs.Lines.{lines_of, content, words_of, rows, word, is_text_byte}
-use Rattle.bp_tree.specs.Edges.{HasEdges, IsGrowing, IsLength, root_children}
+use Rattle.bp_tree.specs.Edges.{HasEdges, IsGrowing, IsLength, uppers, lowers, root_children}
+use Rattle.bp_tree.specs.Json.{is_json, GivesElements, HasNoValue, HasNoElements}
 use Rattle.bp_tree.specs.Text.{GivesEdges, TreeOf}
 
 -- the line isn't the first with words, and its upper name is none of the names so far
@@ -55,7 +56,7 @@ pub record IsKind (names : List (List ℕ)) (line : List ℕ) (kind : TreeKind) 
 
 -- the names that these rows make: the first upper name, and all lower names
 abbrev pub names_of : List (List (List ℕ)) → List (List ℕ)
-names_of rs = take 1 (map (λ row. word row 0) rs) ++ map (λ row. word row 1) rs
+names_of rs = take 1 (map (λ words. word words 0) rs) ++ map (λ words. word words 1) rs
 
 -- the line of number n, counted from 1
 abbrev pub line_at : List (List ℕ) → ℕ → List ℕ
@@ -81,29 +82,78 @@ pub record IsFirstFault (lines : List (List ℕ)) (n : ℕ) (kind : TreeKind) : 
   pub has : IsKind (names_before lines n) (line_at lines n) kind
   pub before : (m : ℕ) (other : TreeKind) → m < n → HasFault lines m other → ⊥
 
--- No line has a fault, and T is what the lines make, which needn't be a tree yet.
+-- An element has this fault, where these are the names so far.
+abbrev pub HasElementKind : List (List ℕ) → Edge → TreeKind → Type 0
+HasElementKind names e BadName = IsName e.upper × IsName e.lower → ⊥
+HasElementKind names e BadLength = IsLength e.length → ⊥
+HasElementKind names e UnknownParent = LacksUpper names e.upper
+HasElementKind names e RepeatedName = RepeatsLower names e.upper e.lower
+HasElementKind names e TooManyNodes = IsFull names
+HasElementKind names e other = ⊥
+
+-- the first kind, in the same order, that the element has
+pub record IsElementKind (names : List (List ℕ)) (e : Edge) (kind : TreeKind) : Type 0 where
+  pub has : HasElementKind names e kind
+  pub first : (other : TreeKind) → order other < order kind → HasElementKind names e other → ⊥
+
+-- the names that elements make
+abbrev pub names_made : List Edge → List (List ℕ)
+names_made es = take 1 (uppers es) ++ lowers es
+
+-- the element of number n, counted from 1
+abbrev pub element_at : List Edge → ℕ → Edge
+element_at es n = slice_index_or es (n - 1) (record { upper = []; lower = []; length = 0 })
+
+abbrev pub IsElement : List Edge → ℕ → Type 0
+IsElement es n = (1 ≤ n) × (n ≤ length es)
+
+-- element n has this fault
+abbrev pub HasElementFault : List Edge → ℕ → TreeKind → Type 0
+HasElementFault es n kind = IsElement es n × HasElementKind (names_made (take (n - 1) es)) (element_at es n) kind
+
+-- The first element with a fault is element n, and this kind is the first that it has.
+pub record IsFirstElementFault (es : List Edge) (n : ℕ) (kind : TreeKind) : Type 0 where
+  pub element : IsElement es n
+  pub has : IsElementKind (names_made (take (n - 1) es)) (element_at es n) kind
+  pub before : (m : ℕ) (other : TreeKind) → m < n → HasElementFault es m other → ⊥
+
+-- the first fault of bytes in the JSON form: of the whole value in line 0, or else of an element
+abbrev pub IsJsonFault : List ℕ → ℕ → TreeKind → Type 0
+IsJsonFault bytes n BadJson = (n ≡ 0) × HasNoValue bytes
+IsJsonFault bytes n BadShape = (n ≡ 0) × HasNoElements bytes
+IsJsonFault bytes n kind = (es : List Edge) × GivesElements bytes es × IsFirstElementFault es n kind
+
+-- A line or an element has this fault, in the JSON form (true) or in lines (false).
+abbrev pub HasFaultIn : Bool → List ℕ → ℕ → TreeKind → Type 0
+HasFaultIn true bytes n kind = (es : List Edge) × GivesElements bytes es × HasElementFault es n kind
+HasFaultIn false bytes n kind = HasFault (lines_of bytes) n kind
+
+-- This is the first fault before the end.
+abbrev pub IsFirstIn : Bool → List ℕ → ℕ → TreeKind → Type 0
+IsFirstIn true bytes n kind = IsJsonFault bytes n kind
+IsFirstIn false bytes n kind = IsFirstFault (lines_of bytes) n kind
+
+-- No line or element has a fault, and T is what they make, which needn't be a tree yet.
 pub record Makes (bytes : List ℕ) (T : TreeValue) : Type 0 where
   pub short : length bytes ≤ most_tree_bytes
-  pub faultless : (n : ℕ) (kind : TreeKind) → HasFault (lines_of bytes) n kind → ⊥
+  pub faultless : (n : ℕ) (kind : TreeKind) → HasFaultIn (is_json bytes) bytes n kind → ⊥
   pub growing : IsGrowing T
   pub given : List Edge
   pub gives : GivesEdges bytes given
   pub has : HasEdges T given
 
--- The first fault of the bytes is of this kind, in line n, or in line 0 where it is of the whole.
+-- The first fault of the bytes is of this kind, in line or element n, or in line 0 where it is of the whole.
 abbrev pub FaultIn : List ℕ → ℕ → TreeKind → Type 0
 FaultIn bytes n TooLong = (n ≡ 0) × (most_tree_bytes < length bytes)
-FaultIn bytes n BadJson = ⊥
-FaultIn bytes n BadShape = ⊥
-FaultIn bytes n Empty = (n ≡ 0) × (length bytes ≤ most_tree_bytes) × (rows (lines_of bytes) ≡ [])
+FaultIn bytes n Empty = (n ≡ 0) × (length bytes ≤ most_tree_bytes) × GivesEdges bytes []
 FaultIn bytes n RootIsLeaf = (n ≡ 0) × (T : TreeValue) × Makes bytes T × (root_children T ≡ 1)
 FaultIn bytes n TooManyLeaves = (n ≡ 0) × (T : TreeValue) × Makes bytes T × (2 ≤ root_children T) × (most_leaves < leaf_count T)
-FaultIn bytes n kind = (length bytes ≤ most_tree_bytes) × IsFirstFault (lines_of bytes) n kind
+FaultIn bytes n kind = (length bytes ≤ most_tree_bytes) × IsFirstIn (is_json bytes) bytes n kind
 
 abbrev pub IsTreeFault : List ℕ → TreeFault → Type 0
 IsTreeFault bytes f = FaultIn bytes f.line f.kind
 
--- the bytes are a text of no tree
+-- the bytes are those of no tree
 abbrev pub IsNoTree : List ℕ → Type 0
 IsNoTree bytes = (T : TreeValue) → TreeOf bytes T → ⊥
 
@@ -115,6 +165,6 @@ ReadsTree bytes (Err NoMemory) = Unit
 
 -- No other tree and no other fault is that of the bytes.
 abbrev pub IsOnlyAnswer : List ℕ → Result TreeValue ReadTree → Type 0
-IsOnlyAnswer bytes (Ok T) = (U : TreeValue) → TreeOf bytes U → U ≡ T
+IsOnlyAnswer bytes (Ok T) = ((U : TreeValue) → TreeOf bytes U → U ≡ T) × ((f : TreeFault) → IsTreeFault bytes f → ⊥)
 IsOnlyAnswer bytes (Err (Fault f)) = (g : TreeFault) → IsTreeFault bytes g → g ≡ f
 IsOnlyAnswer bytes (Err NoMemory) = Unit

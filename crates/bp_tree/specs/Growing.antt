@@ -9,7 +9,7 @@ use Rattle.bp_tree.specs.declared.fault.TreeKind.TheVariants.{UnknownParent, Rep
 use Rattle.bp_tree.specs.declared.fault.TreeFault.{TreeFault}
 use Rattle.bp_tree.specs.Lines.{content, words_of, rows, is_text_byte}
 use Rattle.bp_tree.specs.Edges.{HasEdges, IsLength, edge_words, root_children}
-use Rattle.bp_tree.specs.Faults.{LacksUpper, RepeatsLower, IsFull, IsKind, IsFirstFault}
+use Rattle.bp_tree.specs.Faults.{LacksUpper, RepeatsLower, IsFull, IsKind, IsElementKind, IsFirstFault, IsFirstElementFault}
 
 abbrev pub no_nodes : TreeValue
 no_nodes = record { parents = []; lengths = []; names = [] }
@@ -81,3 +81,18 @@ GrewFrom lines T = (es : List Edge) × (rows lines ≡ map edge_words es) × Has
 abbrev pub ReadsLines : List (List ℕ) → TreeValue → Result Unit TreeFault → Type 0
 ReadsLines lines T (Ok done) = GrewFrom lines T
 ReadsLines lines T (Err f) = IsFirstFault lines f.line f.kind
+
+-- What judging an element answers: its edge, which is well spelled, or the first fault that it has.
+abbrev pub JudgesElement : Edge → Result Edge TreeKind → Type 0
+JudgesElement x (Ok e) = (e ≡ x) × IsName x.upper × IsName x.lower × IsLength x.length
+JudgesElement x (Err kind) = (names : List (List ℕ)) → IsElementKind names x kind
+
+-- What adding an element answers: its edge was added, or the first fault that it has.
+abbrev pub AddsElement : TreeValue → Edge → TreeValue → Result Unit TreeKind → Type 0
+AddsElement T e T' (Ok done) = (es : List Edge) → HasEdges T es → HasEdges T' (es ++ e ∷ [])
+AddsElement T e T' (Err kind) = IsElementKind T.names e kind
+
+-- What adding elements answers.
+abbrev pub AddsElements : List Edge → TreeValue → Result Unit TreeFault → Type 0
+AddsElements es T (Ok done) = HasEdges T es
+AddsElements es T (Err f) = IsFirstElementFault es f.line f.kind

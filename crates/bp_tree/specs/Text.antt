@@ -1,17 +1,23 @@
 -- The tree that bytes stand for, and the canonical text of a tree.
-use Rattle.std.specs.Prelude.{◌≡◌, ℕ, ◌≤◌, List, [], ◌∷◌, ◌++◌, length, map, decimal}
+use Rattle.std.specs.Prelude.{◌≡◌, ℕ, ◌≤◌, List, [], ◌∷◌, ◌++◌, length, map, decimal, Bool, true, false}
 use Rattle.std.specs.List.{flat_map}
 use Rattle.bp_base.specs.Limits.{most_tree_bytes}
 use Rattle.bp_base.specs.Tree.{TreeValue, IsTree, edges, parent, length_of, name_of}
 use Rattle.bp_tree.specs.declared.edge.Edge.{Edge}
 use Rattle.bp_tree.specs.Lines.{lines_of, rows}
 use Rattle.bp_tree.specs.Edges.{HasEdges, edge_words}
+use Rattle.bp_tree.specs.Json.{is_json, GivesElements}
 
--- The bytes give these edges: one per line with words, which are the edge's.
+-- These edges are given by bytes in the JSON form (true) or in lines (false): one per element, or one per line with words, which are the edge's.
+abbrev pub GivesIn : Bool → List ℕ → List Edge → Type 0
+GivesIn true bytes es = GivesElements bytes es
+GivesIn false bytes es = rows (lines_of bytes) ≡ map edge_words es
+
+-- The bytes give these edges.
 abbrev pub GivesEdges : List ℕ → List Edge → Type 0
-GivesEdges bytes es = rows (lines_of bytes) ≡ map edge_words es
+GivesEdges bytes es = GivesIn (is_json bytes) bytes es
 
--- the bytes are a text of T
+-- the bytes are those of T, in lines or in the JSON form
 pub record TreeOf (bytes : List ℕ) (T : TreeValue) : Type 0 where
   pub short : length bytes ≤ most_tree_bytes
   pub tree : IsTree T

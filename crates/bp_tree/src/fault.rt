@@ -1,3 +1,6 @@
+ghost use Rattle.std.specs.Prelude.{◌≡◌};
+ghost use Rattle.bp_tree.specs.Reading.{of_whole};
+
 use thiserror::Error;
 
 /// What is wrong with the bytes of a tree.
@@ -32,4 +35,10 @@ pub enum ReadTree {
     Fault(TreeFault),
     #[error("no memory")]
     NoMemory,
+}
+
+pub fn of_the_whole(kind: TreeKind) -> ReadTree
+    ensures { result ≡ ReadTree.Fault (of_whole kind) }
+{
+    ReadTree::Fault(TreeFault { line: 0, kind })
 }

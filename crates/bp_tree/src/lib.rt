@@ -1,9 +1,10 @@
-//! The text of a tree: reading it with the exact first fault, and writing its canonical form.
+//! The bytes of a tree, in lines or in the JSON form: reading them with the exact first fault, and writing the canonical text.
 #![tactic(auto)]
 
 mod edge;
 mod fault;
 mod grower;
+mod json;
 mod leaves;
 mod reading;
 mod words;

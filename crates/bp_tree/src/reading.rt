@@ -2,15 +2,19 @@ ghost use Rattle.std.specs.Prelude.{◌≡◌};
 ghost use Rattle.bp_tree.specs.Edges.{IsGrowing};
 ghost use Rattle.bp_tree.specs.Faults.{IsOnlyAnswer, ReadsTree};
 ghost use Rattle.bp_tree.specs.Growing.{AddsLine, ReadsLines, no_nodes};
+ghost use Rattle.bp_tree.specs.Reading.{ReadsEdges};
+ghost use Rattle.bp_tree.specs.Json.{is_json};
 ghost use Rattle.bp_tree.specs.Lines.{lines_of};
 
 use crate::edge::edge_of;
+use crate::fault::of_the_whole;
+use crate::json::{is_json, read_json};
 use crate::{Grower, ReadTree, TreeFault, TreeKind};
 use bp_base::{MOST_TREE_BYTES, NoMemory, Tree};
 use bp_text::line;
 use std::alloc::Global;
 
-/// The tree of a text. A fault is the first one, and comes exactly where the bytes are a text of no tree.
+/// The tree of bytes in lines or in the JSON form. A fault is the first one, and comes exactly where the bytes are those of no tree.
 pub fn read_tree(alloc: Global, bytes: &[u8]) -> Result<Tree, ReadTree>
     ensures reads { ReadsTree bytes.now result }
     ensures only { IsOnlyAnswer bytes.now result }
@@ -22,9 +26,9 @@ pub fn read_tree(alloc: Global, bytes: &[u8]) -> Result<Tree, ReadTree>
         Ok(grower) => grower,
         Err(NoMemory) => return Err(ReadTree::NoMemory),
     };
-    match read_lines(&mut grower, bytes) {
+    match read_edges(alloc, &mut grower, bytes) {
         Ok(()) => {}
-        Err(fault) => return Err(ReadTree::Fault(fault)),
+        Err(error) => return Err(error),
     }
     match grower.finish() {
         Ok(tree) => Ok(tree),
@@ -32,10 +36,20 @@ pub fn read_tree(alloc: Global, bytes: &[u8]) -> Result<Tree, ReadTree>
     }
 }
 
-fn of_the_whole(kind: TreeKind) -> ReadTree
-    ensures { result ≡ ReadTree.Fault (record { line = 0; kind = kind }) }
+// Adds the edges of the bytes, in either form.
+fn read_edges(alloc: Global, grower: &mut Grower, bytes: &[u8]) -> Result<(), ReadTree>
+    requires none { grower.old ≡ no_nodes }
+    requires growing { IsGrowing grower.old }
+    ensures growing { IsGrowing grower.new }
+    ensures edges { ReadsEdges (is_json bytes.now) bytes.now grower.new result }
 {
-    ReadTree::Fault(TreeFault { line: 0, kind })
+    if is_json(bytes) {
+        return read_json(alloc, grower, bytes);
+    }
+    match read_lines(grower, bytes) {
+        Ok(()) => Ok(()),
+        Err(fault) => Err(ReadTree::Fault(fault)),
+    }
 }
 
 // Adds the edges of all lines.

@@ -43,11 +43,104 @@ fn faults_are_the_first(rt: HostRuntime) -> Result<(), Fail> {
         ("x\nc p\u{7f}\n", Some((1, TreeKind::WordCount))),
         ("c p 1\nx y 0\n", Some((2, TreeKind::BadLength))),
         ("c p 1\nx p 1\n", Some((2, TreeKind::UnknownParent))),
-        ("{\"edges\":[]}", Some((1, TreeKind::WordCount))),
+        ("c {\"edges\":[]}\n", Some((1, TreeKind::WordCount))),
+        ("[{\"edges\":[]}]", Some((1, TreeKind::WordCount))),
     ];
     for (text, want) in rows {
         assert_eq!(rt; fault_of(rt.alloc(), text.as_bytes())?, want, "{text}");
     }
+    Ok(())
+}
+
+#[test]
+fn faults_of_the_json_form_are_the_first(rt: HostRuntime) -> Result<(), Fail> {
+    let shape = Some((0, TreeKind::BadShape));
+    let json = Some((0, TreeKind::BadJson));
+    let rows = [
+        (
+            r#"{"edges":[["c","p",1],["c","q",1],["c","r",1],["c","s",1]]}"#,
+            None,
+        ),
+        (
+            "\r\n\t { \"a\" : [ ] , \"edges\" :\n[ [\"c\",\"p\",1],[\"c\",\"q\",1000] ] } \n",
+            None,
+        ),
+        (
+            r#"{"edges":7,"edges":[["c","p",1],["c","q",1]],"more":{"edges":7}}"#,
+            None,
+        ),
+        (r#"{"edges":[["c","\u0070",1],["c","q",1]]}"#, None),
+        (
+            r#"{"edges":[["c","p",1.5],["c","q",1],["c","r",1],["c","s",1]]}"#,
+            shape,
+        ),
+        (r#"{"edges":[["c","p",1.0],["c","q",1]]}"#, shape),
+        (r#"{"edges":[["c","p",1e0],["c","q",1]]}"#, shape),
+        (r#"{"edges":[["c","p",-1],["c","q",1]]}"#, shape),
+        (
+            r#"{"edges":[["c","p",18446744073709551616],["c","q",1]]}"#,
+            shape,
+        ),
+        (r#"{"edges":[["c","p","1"],["c","q",1]]}"#, shape),
+        (r#"{"edges":[["c",1,"p"],["c","q",1]]}"#, shape),
+        (r#"{"edges":[["c","p"],["c","q",1]]}"#, shape),
+        (r#"{"edges":[["c","p",1,1],["c","q",1]]}"#, shape),
+        (r#"{"edges":[["c!","p",1],["c","q"]]}"#, shape),
+        (r#"{"edges":[["c","p",1],7]}"#, shape),
+        (r#"{"edges":{"c":["c","p",1]}}"#, shape),
+        (r#"{"edges":[["c","p",1],["c","q",1]],"edges":7}"#, shape),
+        (r#"{"Edges":[["c","p",1],["c","q",1]]}"#, shape),
+        ("{}", shape),
+        (r#"{"edges":["#, json),
+        (r#"{"edges":[["c","p",1],["c","q",1]]}#"#, json),
+        (r#"{"edges":[["c","p",1],["c","q",1]]}{}"#, json),
+        (r#"{"edges":[["c","p",1],["c","q",1]],"a":"\ud800"}"#, json),
+        ("{\"edges\":[[\"c\",\"p\n\",1],[\"c\",\"q\",1]]}", json),
+        (r#"{"edges":[["c","p",01],["c","q",1]]}"#, json),
+        (r#"{"edges":[["c","p",1],["c","q",1]],"a":1e999}"#, json),
+        (r#"{"edges":[]}"#, Some((0, TreeKind::Empty))),
+        (
+            r#"{"edges":[["c","p",1]]}"#,
+            Some((0, TreeKind::RootIsLeaf)),
+        ),
+        (
+            r#"{"edges":[["c","p",1],["c","q r",0]]}"#,
+            Some((2, TreeKind::BadName)),
+        ),
+        (
+            r#"{"edges":[["","p",1],["c","q",1]]}"#,
+            Some((1, TreeKind::BadName)),
+        ),
+        (
+            r#"{"edges":[["c","p",1],["x","q",0]]}"#,
+            Some((2, TreeKind::BadLength)),
+        ),
+        (
+            r#"{"edges":[["c","p",1001],["c","q",1]]}"#,
+            Some((1, TreeKind::BadLength)),
+        ),
+        (
+            r#"{"edges":[["c","p",18446744073709551615],["c","q",1]]}"#,
+            Some((1, TreeKind::BadLength)),
+        ),
+        (
+            r#"{"edges":[["c","p",1],["x","p",1]]}"#,
+            Some((2, TreeKind::UnknownParent)),
+        ),
+        (
+            r#"{"edges":[["c","p",1],["p","c",1]]}"#,
+            Some((2, TreeKind::RepeatedName)),
+        ),
+        (
+            r#"{"edges":[["c","c",1],["c!","p",1]]}"#,
+            Some((1, TreeKind::RepeatedName)),
+        ),
+    ];
+    for (text, want) in rows {
+        assert_eq!(rt; fault_of(rt.alloc(), text.as_bytes())?, want, "{text}");
+    }
+    let broken = b"{\"edges\":[[\"c\",\"p\",1],[\"c\",\"q\",1]],\"a\":\"\xff\"}";
+    assert_eq!(rt; fault_of(rt.alloc(), broken)?, json);
     Ok(())
 }
 
@@ -58,6 +151,18 @@ fn star(alloc: Global, leaves: u64) -> Result<Vec<u8>, AllocError> {
         let line = format!(in alloc; "c n{leaf} 1\n")?;
         text.extend_from_slice(line.as_bytes())?;
     }
+    Ok(text)
+}
+
+// The same star in the JSON form.
+fn json_star(alloc: Global, leaves: u64) -> Result<Vec<u8>, AllocError> {
+    let mut text = Vec::new(alloc);
+    text.extend_from_slice(b"{\"edges\":[[\"c\",\"n0\",1]")?;
+    for leaf in 1..leaves {
+        let element = format!(in alloc; ",[\"c\",\"n{leaf}\",1]")?;
+        text.extend_from_slice(element.as_bytes())?;
+    }
+    text.extend_from_slice(b"]}")?;
     Ok(text)
 }
 
@@ -72,6 +177,12 @@ fn limits_of_a_tree(rt: HostRuntime) -> Result<(), Fail> {
     for (leaves, want) in rows {
         let text = star(rt.alloc(), leaves)?;
         assert_eq!(rt; fault_of(rt.alloc(), &text)?, want, "{leaves} leaves");
+        let text = json_star(rt.alloc(), leaves)?;
+        assert_eq!(rt;
+            fault_of(rt.alloc(), &text)?,
+            want,
+            "{leaves} leaves in JSON"
+        );
     }
     let mut full = star(rt.alloc(), 4)?;
     full.push(b'#')?;
@@ -79,6 +190,10 @@ fn limits_of_a_tree(rt: HostRuntime) -> Result<(), Fail> {
     assert_eq!(rt; fault_of(rt.alloc(), &full)?, None);
     full.push(b'.')?;
     assert_eq!(rt; fault_of(rt.alloc(), &full)?, Some((0, TreeKind::TooLong)));
+    full[0] = b'{';
+    assert_eq!(rt; fault_of(rt.alloc(), &full)?, Some((0, TreeKind::TooLong)));
+    full.truncate(65_536);
+    assert_eq!(rt; fault_of(rt.alloc(), &full)?, Some((0, TreeKind::BadJson)));
     Ok(())
 }
 

@@ -1,4 +1,4 @@
-use Rattle.bp_floor.proofs.Sampled.{letters_more}
+use Rattle.bp_metric.proofs.Sampled.{letters_more}
 use Rattle.bp_floor.proofs.tests.names.Goals as goal
 
 pub loop-number-preserved : goal.loop-number-preserved

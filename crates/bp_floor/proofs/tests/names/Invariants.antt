@@ -1,5 +1,5 @@
 use Rattle.std.proofs.Common.{◌≡◌}
-use Rattle.bp_floor.specs.Samples.{letters}
+use Rattle.bp_metric.specs.Samples.{letters}
 use Rattle.bp_floor.proofs.tests.names.Given as goal
 
 abbrev pub invariant-loop-number : goal.invariant-loop-number

@@ -1,5 +1,5 @@
 use Rattle.std.proofs.Common.{length, refl}
-use Rattle.bp_floor.proofs.Sampled.{made_tree}
+use Rattle.bp_metric.proofs.Sampled.{made_tree}
 use Rattle.bp_floor.proofs.tests.tree.Goals as goal
 
 pub of-requires : goal.of-requires

@@ -9,7 +9,7 @@ use Rattle.std.proofs.lemmas.List.Sums.{AllPass-from_list_all}
 use Rattle.bp_base.specs.Limits.{most_leaves, most_length}
 use Rattle.bp_base.specs.Name.{IsName, is_name_byte}
 use Rattle.bp_base.specs.Tree.{IsTree, leaf_count}
-use Rattle.bp_floor.specs.Samples.{letters, sample, is_sample}
+use Rattle.bp_metric.specs.Samples.{letters, sample, is_sample}
 
 both : (a b : Bool) → (a && b) ≡ true → (a ≡ true) × (b ≡ true)
 both true b e = (refl, e)

@@ -1,0 +1,11 @@
+//! Tests of single chains and cycles, which share no code with the search.
+#![tactic(auto)]
+
+mod claim;
+mod places;
+#[cfg(test)]
+mod tests;
+mod weighing;
+
+pub use claim::claim_holds;
+pub use weighing::weight;

@@ -1,0 +1,7 @@
+mod Entries
+mod Sides
+mod Draws
+mod Halts
+mod Passes
+mod Gathers
+mod Closes

@@ -1,0 +1,9 @@
+pub mod Entries
+pub mod Side
+pub mod Tickets
+pub mod Halt
+pub mod Board
+pub mod Seats
+pub mod Passes
+pub mod Notes
+pub mod Boards

@@ -1,0 +1,4 @@
+mod Steps
+mod Trails
+mod Done
+mod Fine

@@ -1,0 +1,15 @@
+//! Least coordinates of a path from scratch: the greatest weights of its chains, what it forces and shows, or a cycle of it.
+#![tactic(auto)]
+
+mod cycles;
+mod judging;
+mod lows;
+mod opens;
+mod orders;
+mod shown;
+#[cfg(test)]
+mod tests;
+mod walking;
+
+pub use judging::{Judged, judge_greatest};
+pub use walking::{cycle_on, least};
