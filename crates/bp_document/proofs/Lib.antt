@@ -1,5 +1,14 @@
 pub mod Words
+pub mod Cuts
+pub mod Chains
+pub mod NodeLines
+pub mod Forms
+pub mod EdgeSteps
+pub mod LineSteps
+pub mod StartSteps
+pub mod BodySteps
+pub mod EdgeStages
 pub mod Nodes
-mod Leaves
+pub mod Leaves
 mod Parts
 mod Counts

@@ -1,3 +1,10 @@
 pub mod Lines
 pub mod Ranges
 pub mod Text
+pub mod Words
+pub mod Nodes
+pub mod Forms
+pub mod FormWords
+pub mod Places
+pub mod Faults
+pub mod Stages

@@ -1,13 +1,28 @@
 //! Design documents: what they hold, and their text.
 #![tactic(auto)]
 
+mod body_step;
+mod cut;
 mod document;
+mod edge_step;
+mod fault;
+mod form;
+mod head;
 mod line;
 mod node;
+mod node_line;
+mod node_step;
+mod point_step;
 mod points;
+mod room;
+mod stage;
+mod start_step;
 mod write;
 
 pub use document::Document;
+pub use fault::{DocFault, DocKind, ReadDoc};
+pub use head::Head;
+pub use node_line::{NodeKind, NodeLine};
 pub use write::write_document;
 
 #[cfg(test)]

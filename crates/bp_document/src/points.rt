@@ -44,7 +44,7 @@ fn put_if_leaf<K: Sink>(
     Ok(leaves + 1)
 }
 
-fn has_child(tree: &Tree, node: u64) -> bool
+pub fn has_child(tree: &Tree, node: u64) -> bool
     ensures { result ≡ has_child tree.now node }
 {
     tree.parents()[1..].contains(&node)
