@@ -1,0 +1,4 @@
+mod Deques
+mod Tried
+mod Hands
+mod Mems
