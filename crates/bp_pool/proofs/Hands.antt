@@ -26,7 +26,7 @@ use Rattle.bp_pool.specs.Tries.{AreCounts, NoneFell, MatchStolen, MatchTake, wit
 use Rattle.bp_pool.specs.declared.tries.Take.{Take}
 use Rattle.bp_pool.specs.declared.tries.Take.TheVariants as took
 use Rattle.bp_pool.specs.Hands.{HandView, top, hands_of, rest_of_hand, of_take}
-use Rattle.bp_pool.specs.Kept.{hand_view, taken_by, all_taken, deque_of, deques_of, each_of, given_to, IsTheft, IsTold, IsHand, Deque, view_of}
+use Rattle.bp_pool.specs.Kept.{hand_view, taken_by, all_taken, deque_of, deques_of, each_of, total_of, given_to, IsTheft, IsTold, IsHand, Deque, view_of}
 use Rattle.bp_pool.proofs.Deques.{taking, taking_pushes, pushing, taken_count, All_one, back_good}
 
 -- Counts.
@@ -180,7 +180,7 @@ module _ (o : Inside) (was : IsHand o) where
         lifo = was.lifo;
         one = was.one;
         told = record {
-          total = was.told.total ∙ ap (λ (n : ℕ). 1 + n * each_of n) (sym len);
+          total = was.told.total ∙ ap (λ (n : ℕ). total_of n) (sym len);
           given = was.told.given;
           thefts_are = subst (λ (l : List Theft). All (IsTheft (each_of (length l)) facts.leaves) l) (sym is)
               (subst (λ (n : ℕ). All (IsTheft (each_of n) facts.leaves) (set was_ts i new)) (sym (length-set was_ts i new)) (All-set (IsTheft (each_of (length was_ts)) facts.leaves) was_ts i new theft was.told.thefts_are));
@@ -198,7 +198,7 @@ module _ (o : Inside) (was : IsHand o) where
   -- the pool of one hand
   alone : length o.thefts.items ≡ 1 → HasAll (worker_view o.own) × ((worker_view o.own).facts.given ≡ (worker_view o.own).facts.root ∷ []) × ((h : Task → ℕ) → sum_by h (flat_map taken_by o.thefts.items) ≡ 0)
   alone is = (
-    (omega (arith, was.one), was.one ∙ sym (was.told.total ∙ ap (λ (n : ℕ). 1 + n * each_of n) is)),
+    (omega (arith, was.one), was.one ∙ sym (was.told.total ∙ ap (λ (n : ℕ). total_of n) is)),
     was.told.given ∙ ap (λ (n : ℕ). given_to n (worker_view o.own).facts.root) first,
     λ h. no_rights h (worker_view o.own).facts.leaves o.thefts.items (subst (λ (n : ℕ). All (IsTheft (each_of n) (worker_view o.own).facts.leaves) o.thefts.items) is was.told.thefts_are),
   )

@@ -2,3 +2,6 @@ mod Deques
 mod Tried
 mod Hands
 mod Mems
+mod Opens
+mod Makes
+mod Lays

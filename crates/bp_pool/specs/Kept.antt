@@ -1,5 +1,5 @@
 -- How a hand is kept.
-use Rattle.std.specs.Prelude.{◌≡◌, ◌≤◌, ◌<◌, ◌+◌, ◌-◌, ◌*◌, ◌==◌, cond, min, ℕ, List, [], ◌∷◌, ◌++◌, All, length, map, slice_get, Some}
+use Rattle.std.specs.Prelude.{◌≡◌, ◌≤◌, ◌<◌, ◌+◌, ◌-◌, ◌==◌, cond, min, ℕ, List, [], ◌∷◌, ◌++◌, All, length, map, slice_get, Some}
 use Rattle.std.specs.List.{flat_map, range_with_len}
 use Rattle.crossbeam_deque.specs.Handles.{view, IsPassOf, stealer_deque, worker_deque, worker_view, worker_flavor}
 use Rattle.bp_base.specs.declared.record.Task.{Task}
@@ -49,6 +49,13 @@ hand_view h = record {
 abbrev pub each_of : ℕ → ℕ
 each_of hands = min 1 (hands - 1)
 
+-- how many rights there are to each deque: one for its owner, and in a pool of several hands one for each of so many hands
+abbrev pub rights_of : ℕ → ℕ → ℕ
+rights_of hands others = cond (hands == 1) 1 (1 + others)
+
+abbrev pub total_of : ℕ → ℕ
+total_of hands = rights_of hands hands
+
 -- the first deque was given the root
 abbrev pub given_to : ℕ → Task → List Task
 given_to number root = cond (number == 1) (root ∷ []) []
@@ -61,7 +68,7 @@ pub record IsTheft (each leaves : ℕ) (t : Theft) : Type 0 where
 
 -- What the deque was told is of the hand's place, and each pass is as it should be.
 pub record IsTold (facts : Facts) (number : ℕ) (thefts : List Theft) : Type 0 where
-  pub total : facts.total ≡ 1 + length thefts * each_of (length thefts)
+  pub total : facts.total ≡ total_of (length thefts)
   pub given : facts.given ≡ given_to number facts.root
   pub thefts_are : All (IsTheft (each_of (length thefts)) facts.leaves) thefts
 

@@ -5,3 +5,4 @@ pub mod Hands
 pub mod Kept
 pub mod Mem
 pub mod Memory
+pub mod Opens

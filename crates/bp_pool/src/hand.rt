@@ -8,13 +8,17 @@ ghost use Rattle.bp_base.specs.declared.record.Task.{Task};
 ghost use Rattle.bp_pool.specs.Shares.{IsTaskOf, Works};
 ghost use Rattle.bp_pool.specs.Tries.{Stays, NoneFell, Rose, Grew, MatchStolen, MatchTake, with_task, of_stolen};
 ghost use Rattle.bp_pool.specs.Hands.{HandView, hands_of, rest_of_hand, IsSameHand, idle_after, IsAllTaken, HasCauses, of_take};
-ghost use Rattle.bp_pool.specs.Kept.{IsTheft, taken_by, deque_of};
+ghost use Rattle.std.specs.Prelude.{IfOk, slice_get, replicate};
+ghost use Rattle.crossbeam_deque.specs.Handles.{worker_deque};
+ghost use Rattle.bp_pool.specs.Kept.{IsTheft, taken_by, deque_of, deques_of, total_of, given_to};
+ghost use Rattle.bp_pool.specs.Opens.{IsLeft, IsRow, facts_in, new_hand};
 
 use crate::count::count_up;
 use crate::deque::{Owner, TaskPass, Thief, pop, push, steal};
 use crate::tries::{Stolen, Take, take_from};
-use bp_base::Task;
+use bp_base::{NoMemory, Task};
 use crossbeam_deque::Steal;
+use std::alloc::Global;
 use std::marker::Model;
 
 /// A pass on a hand's deque, which stands at a place among the pool's deques.
@@ -67,6 +71,36 @@ impl Model for Hand {
 }
 
 impl Hand {
+    /// A hand that has done nothing.
+    pub(crate) fn new(
+        alloc: Global,
+        number: u64,
+        hands: u64,
+        _leaves: u64,
+        own: Owner,
+        thefts: Vec<Theft>,
+    ) -> Result<Hand, NoMemory>
+        requires own { IsLeft _leaves 1 own }
+        requires row { IsRow _leaves hands (deques_of thefts.items) thefts.items }
+        requires facts { ((facts_in own).total ≡ total_of hands) × ((facts_in own).given ≡ given_to number (facts_in own).root) }
+        requires number { (1 ≤ number) × (number ≤ hands) × (hands ≤ most_hands) }
+        requires place { slice_get (deques_of thefts.items) (number - 1) ≡ Some (worker_deque own) }
+        ensures { IfOk result (λ h. h ≡ new_hand (record { deques = deques_of thefts.items; leaves = (facts_in own).leaves; root = (facts_in own).root }) number) }
+    {
+        let misses = zeros(alloc, hands)?;
+        let lost = zeros(alloc, hands)?;
+        Ok(Hand {
+            number,
+            idle: 0,
+            pushes: 0,
+            takes: 0,
+            own,
+            thefts,
+            misses,
+            lost,
+        })
+    }
+
     /// Adds a task at the back of the own deque. The task comes back where the deque found no room; then nothing changed.
     pub fn push(&mut self, task: Task) -> Result<(), Task>
         requires { IsTaskOf self.old.pool.leaves task }
@@ -188,6 +222,14 @@ impl Hand {
             }
         }
     }
+}
+
+fn zeros(alloc: Global, hands: u64) -> Result<Vec<u64>, NoMemory>
+    ensures { IfOk result (λ v. v.items ≡ replicate hands 0) }
+{
+    let mut counts = Vec::new(alloc);
+    counts.resize(hands as usize, 0)?;
+    Ok(counts)
 }
 
 // How many takes in a row gave none, after this one.

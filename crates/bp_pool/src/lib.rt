@@ -5,8 +5,10 @@ mod count;
 mod deque;
 mod hand;
 mod mem;
+mod pool;
 mod tries;
 
 pub use hand::Hand;
 pub use mem::MemTries;
+pub use pool::open;
 pub use tries::{Stolen, Take, Tries, take_from};
