@@ -303,8 +303,7 @@ gives port v xs all bare new items views kept at = let w = with_given v xs in le
     let counted = all_counted items views port v all kept at in
     let nothing : kept.facts.given ≡ [] = sym (ap (λ (f : Facts). f.given) is) ∙ bare in
     let leaves : v.facts.leaves ≡ kept.facts.leaves = ap (λ (f : Facts). f.leaves) is in
-    let was : (j : ℕ) (u : Rights) → j ≢ port → get_elem? views j ≡ some u → length u.deeds ≡ 0 = λ j u apart e. others views port j v u counted apart at e in
-    (
+    let was : (j : ℕ) (u : Rights) → j ≢ port → get_elem? views j ≡ some u → length u.deeds ≡ 0 = λ j u apart e. others views port j v u counted apart at e in (
       w,
       record {
         facts = w.facts;

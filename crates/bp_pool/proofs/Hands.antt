@@ -237,7 +237,7 @@ module _ (o : Inside) (was : IsHand o) where
   -- a steal leaves the hand in its place
   pub in_place : (seen : HandView) (i : ℕ) (old new : Theft) → hand_view o ≡ seen → get_or o.thefts.items i old ≡ old → deque_of new ≡ deque_of old
       → (((record { deques = deques_of (set o.thefts.items i new); leaves = (worker_view o.own).facts.leaves; root = (worker_view o.own).facts.root }) ≡ seen.pool) × (o.number ≡ seen.number))
-          × ((record { pool = record { deques = deques_of (set o.thefts.items i new); leaves = (worker_view o.own).facts.leaves; root = (worker_view o.own).facts.root }; pushed = pushed_of (worker_view o.own); idle = o.idle }) ≡ rest_of_hand seen)
+      × ((record { pool = record { deques = deques_of (set o.thefts.items i new); leaves = (worker_view o.own).facts.leaves; root = (worker_view o.own).facts.root }; pushed = pushed_of (worker_view o.own); idle = o.idle }) ≡ rest_of_hand seen)
   in_place seen i old new is at same =
       let leaves = (worker_view o.own).facts.leaves in
       let root = (worker_view o.own).facts.root in

@@ -45,8 +45,6 @@ idle_after took.Contended n = one_more n
 abbrev pub IsAllTaken : HandView → Type 0
 IsAllTaken h = AreSame (h.pool.root ∷ h.pushed) h.taken
 
-
-
 abbrev pub of_take : Take → Option Task
 of_take (took.Task t) = Some t
 of_take took.Empty = None

@@ -28,7 +28,13 @@ fn share(owner: &mut Owner, hands: u64) -> TaskPass
 }
 
 // A hand's pass on the deque at a place.
-fn deal(owner: &mut Owner, place: usize, hands: u64, _leaves: u64, _left: u64) -> Result<Theft, NoMemory>
+fn deal(
+    owner: &mut Owner,
+    place: usize,
+    hands: u64,
+    _leaves: u64,
+    _left: u64,
+) -> Result<Theft, NoMemory>
     requires { IsLeft _leaves (_left + each_of hands) owner.old × (0 < _left) }
     ensures same { IfOk result (λ _. SameWorker owner.old owner.new × (facts_in owner.new ≡ facts_in owner.old) × IsLeft _leaves _left owner.new) }
     ensures theft { IfOk result (λ t. (t.place ≡ place) × (deque_of t ≡ worker_deque owner.old) × IsNewTheft (each_of hands) _leaves t) }
@@ -39,7 +45,13 @@ fn deal(owner: &mut Owner, place: usize, hands: u64, _leaves: u64, _left: u64) -
 }
 
 // A hand's passes on all deques.
-fn row(alloc: Global, owners: &mut Vec<Owner>, hands: u64, leaves: u64, left: u64) -> Result<Vec<Theft>, NoMemory>
+fn row(
+    alloc: Global,
+    owners: &mut Vec<Owner>,
+    hands: u64,
+    leaves: u64,
+    left: u64,
+) -> Result<Vec<Theft>, NoMemory>
     requires count { length owners.old.items ≡ hands }
     requires left { (0 < left) × All (IsLeft leaves (left + each_of hands)) owners.old.items }
     ensures owners { IfOk result (λ _. All (IsLeft leaves left) owners.new.items × (all_facts owners.new.items ≡ all_facts owners.old.items) × (ids_of owners.new.items ≡ ids_of owners.old.items)) }
@@ -92,7 +104,12 @@ fn lay(alloc: Global, hands: u64, leaves: u64, root: Task) -> Result<Vec<Owner>,
 }
 
 // All hands' passes.
-fn rows(alloc: Global, owners: &mut Vec<Owner>, hands: u64, leaves: u64) -> Result<Vec<Vec<Theft>>, NoMemory>
+fn rows(
+    alloc: Global,
+    owners: &mut Vec<Owner>,
+    hands: u64,
+    leaves: u64,
+) -> Result<Vec<Vec<Theft>>, NoMemory>
     requires count { (length owners.old.items ≡ hands) × (hands ≤ most_hands) }
     requires left { All (IsLeft leaves (total_of hands)) owners.old.items }
     ensures owners { IfOk result (λ _. All (IsLeft leaves 1) owners.new.items × (all_facts owners.new.items ≡ all_facts owners.old.items) × (ids_of owners.new.items ≡ ids_of owners.old.items)) }
@@ -108,7 +125,13 @@ fn rows(alloc: Global, owners: &mut Vec<Owner>, hands: u64, leaves: u64) -> Resu
 }
 
 // The hands of the deques, each with a row of passes.
-fn seat(alloc: Global, mut owners: Vec<Owner>, mut rows: Vec<Vec<Theft>>, hands: u64, leaves: u64) -> Result<Vec<Hand>, NoMemory>
+fn seat(
+    alloc: Global,
+    mut owners: Vec<Owner>,
+    mut rows: Vec<Vec<Theft>>,
+    hands: u64,
+    leaves: u64,
+) -> Result<Vec<Hand>, NoMemory>
     requires pool { (pool : PoolView) × IsLaid pool hands owners.items × (pool.leaves ≡ leaves) × (hands ≤ most_hands) }
     requires owners { All (IsLeft leaves 1) owners.items }
     requires rows { (length rows.items ≡ hands) × All (λ v. IsRow leaves hands (ids_of owners.items) v.items) rows.items }
@@ -137,4 +160,11 @@ pub fn open(alloc: Global, hands: u64, leaves: u64, root: Task) -> Result<Vec<Ha
     let rows = rows(alloc, &mut owners, hands, leaves)?;
     let all = seat(alloc, owners, rows, hands, leaves)?;
     Ok(all)
+}
+
+fn moves<T: Send>(_: &T) {}
+
+// A hand may go to another thread.
+fn crosses(hand: &Hand) {
+    moves(hand);
 }

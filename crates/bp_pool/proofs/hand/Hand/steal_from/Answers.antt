@@ -131,4 +131,3 @@ returns-in-Lost-clause-taken c =
     let leaves = (worker_view o.own).facts.leaves in
     let Good : Task → Type 0 = IsTaskOf (view_of old).facts.leaves in
     λ h. stolen_same o was i old new stolen.Lost Good lt at c.in-Lost.ensures.taken h ∙ ap (λ (v : HandView). sum_by h (v.taken)) c.self.view_is
-

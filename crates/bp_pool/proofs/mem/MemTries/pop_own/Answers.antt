@@ -27,4 +27,3 @@ returns-in-None-clause-deques c =
     let len : length vs ≡ length c.args.self.now.deques = sym (length-map vs (λ v. v.items)) ∙ ap (λ (m : MemView). length m.deques) c.self.view_is in
     let lt : i < length vs = omega (arith, len, c.self.invariant.number) in
     subst (λ (m : MemView). PopsOwn (Some m.deques) (m.number - 1) None (Some (items_of (set vs i new)))) c.self.view_is (popped_none vs i old new lt at c.in-None.ensures)
-

@@ -27,4 +27,3 @@ returns-in-None-clause-deques c =
     let len : length vs ≡ length c.args.self.now.deques = sym (length-map vs (λ v. v.items)) ∙ ap (λ (m : MemView). length m.deques) c.self.view_is in
     let lt : i < length vs = omega (arith, len, c.self.invariant.number, c.requires) in
     subst (λ (m : MemView). StealsFirst (Some m.deques) i stolen.Empty (Some (items_of (set vs i new)))) c.self.view_is (stole_none vs i old new lt at c.in-None.ensures)
-
