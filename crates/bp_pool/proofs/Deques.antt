@@ -1,11 +1,11 @@
 -- Each step on a deque keeps its rule.
-use Rattle.std.proofs.Common.{All, get_or, ⊎_elim, inl, inr, ◌⊎◌}
+use Rattle.std.proofs.Common.{All, ⊎_elim}
 use Rattle.std.proofs.lemmas.List.Elements.{All-append, All-take, All-drop}
 use lib.Seq.{take-append_seam, drop-append_seam}
 use Rattle.crossbeam_deque.proofs.Lists.{at_set, at_snoc}
 use Rattle.bp_pool.specs.Shares.{IsTaskOf}
 use Rattle.bp_pool.specs.Shares as shares
-use Rattle.std.proofs.Common.{◌≡◌, ◌≢◌, ℕ, zero, suc, ◌+◌, ◌<◌, ◌≤◌, List, [], ◌∷◌, ◌++◌, length, set, drop, take, sym, refl, ap, ◌∙◌, subst, arith, length-append, length-drop, length-take}
+use Rattle.std.proofs.Common.{◌≡◌, ◌≢◌, ℕ, zero, suc, ◌+◌, ◌<◌, List, [], ◌∷◌, ◌++◌, length, set, drop, take, sym, refl, ap, ◌∙◌, subst, arith, length-append}
 use Rattle.std.specs.List.{sum_by, flat_map}
 use Rattle.std.proofs.lemmas.List.Sums.{sum_by-cons, sum_by-append, sum_by_push}
 use Rattle.std.proofs.lemmas.List.Concat.{flat_map-cons}
@@ -18,7 +18,6 @@ use Rattle.bp_pool.specs.declared.deque.Deeds.{Deeds}
 use Rattle.bp_pool.specs.declared.deque.Rights.{Rights}
 use Rattle.bp_pool.specs.Shares.{share, rights, none, untold, facts_of, untouched, fresh, pushed_of, taken_of, all_rights, all_pushed, all_taken, IsKept, pushed_by_first, taken_by_first, with_pushed, with_taken, with_given, count_of, Works, rest_of, dealt_rest, dealt_one, dealt_none, both, HasAll, IsDone, Drains}
 use Rattle.bp_base.proofs.Bags.{total_set, total_at}
-use Rattle.bp_base.specs.Bags.{AreSame}
 use Rattle.bp_pool.specs.declared.deque.Facts.{Facts}
 
 abbrev count : Rights → ℕ

@@ -1,5 +1,5 @@
 -- A new hand has done nothing.
-use Rattle.std.proofs.Common.{get_or, ◌≡◌, ℕ, zero, suc, ◌+◌, ◌-◌, ◌^◌, ◌<◌, ◌≤◌, min, List, [], ◌∷◌, ◌++◌, Some, length, map, slice_get, slice_index, All, sym, refl, ap, ◌∙◌, subst, arith}
+use Rattle.std.proofs.Common.{get_or, ◌≡◌, ℕ, zero, suc, ◌-◌, ◌^◌, ◌<◌, ◌≤◌, min, List, [], ◌∷◌, ◌++◌, Some, length, slice_get, slice_index, All, sym, refl, ap, ◌∙◌, subst, arith}
 use Rattle.std.specs.Prelude.{replicate}
 use Rattle.std.specs.List.{flat_map, range_with_len}
 use Rattle.std.proofs.lemmas.List.{length-map}
@@ -11,10 +11,10 @@ use Rattle.bp_base.specs.declared.record.Task.{Task}
 use Rattle.bp_pool.specs.declared.deque.Deeds.{Deeds}
 use Rattle.bp_pool.specs.declared.hand.Theft.{Theft}
 use Rattle.bp_pool.specs.declared.hand.Hand.TheInside.{Inside}
-use Rattle.bp_pool.specs.Shares.{untouched, taken_of, pushed_of, IsTaskOf}
+use Rattle.bp_pool.specs.Shares.{untouched, pushed_of, IsTaskOf}
 use Rattle.bp_pool.specs.Tries.{AreCounts}
-use Rattle.bp_pool.specs.Hands.{HandView, top}
-use Rattle.bp_pool.specs.Kept.{hand_view, taken_by, all_taken, deque_of, deques_of, each_of, total_of, given_to, IsTheft, IsTold, IsHand}
+use Rattle.bp_pool.specs.Hands.{top}
+use Rattle.bp_pool.specs.Kept.{hand_view, taken_by, all_taken, deque_of, deques_of, each_of, total_of, given_to, IsTheft, IsHand}
 use Rattle.bp_pool.specs.Opens.{facts_in, IsLeft, IsNewTheft, IsRow, new_hand}
 
 nothing_taken : (n : ℕ) → flat_map (λ (d : Deeds). d.taken) (untouched n) ≡ []

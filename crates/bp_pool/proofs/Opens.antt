@@ -1,7 +1,6 @@
 -- The deques of a pool are dealt out.
-use Rattle.std.proofs.Common.{◌≡◌, ◌≢◌, ℕ, zero, suc, ◌+◌, ◌<◌, ◌≤◌, List, [], ◌∷◌, ◌++◌, length, set, get_or, map, drop, take, All, sym, refl, ap, ◌∙◌, subst, arith, length-append}
-use Rattle.std.specs.List.{range_with_len, flat_map}
-use Rattle.bp_pool.specs.declared.deque.Deeds.{Deeds}
+use Rattle.std.proofs.Common.{◌≡◌, ◌≢◌, ℕ, zero, suc, ◌+◌, ◌<◌, ◌≤◌, List, [], ◌∷◌, ◌++◌, length, set, get_or, drop, take, All, sym, refl, ap, ◌∙◌, subst, arith}
+use Rattle.std.specs.List.{range_with_len}
 use Rattle.bp_pool.specs.Shares.{untouched, rest_of}
 use Rattle.crossbeam_deque.specs.Handles.{worker_deque}
 use Rattle.bp_pool.specs.Kept.{Deque}

@@ -1,13 +1,12 @@
 -- What tries one after another add up to.
-use Rattle.std.proofs.Common.{◌≡◌, ◌≢◌, ℕ, zero, suc, ◌+◌, ◌-◌, ◌^◌, ◌<◌, ◌≤◌, ◌⊎◌, Option, Some, None, List, [], ◌∷◌, ◌++◌, slice_index, sym, refl, ap, ◌∙◌, subst, inl, inr, ⊎_elim, arith, cond, leb, true, false, Bool, le_trans}
-use Rattle.std.specs.List.{sum_by}
+use Rattle.std.proofs.Common.{◌≡◌, ◌≢◌, ℕ, suc, ◌+◌, ◌-◌, ◌^◌, ◌<◌, ◌≤◌, Option, Some, None, List, [], ◌∷◌, sym, refl, ◌∙◌, subst, inl, inr, ⊎_elim, arith, true, false, Bool, le_trans}
 use Rattle.std.proofs.lemmas.List.Sums.{sum_by-append}
 use Rattle.std.proofs.lemmas.Bool.Decides.{nat_tests}
 use mathlib.Core.Logic.{dite}
 use native.Mathlib.Decide.{ℕ_discrete, dec_le}
 use Rattle.bp_base.specs.declared.record.Task.{Task}
 use Rattle.bp_base.specs.Bags.{AreSame}
-use Rattle.bp_pool.specs.Tries.{IsMore, Rose, NoneFell, Grew, with_task, EachRose, EachTried, SomeLost, place, PopsOwn, StealsFirst, IsBare, TakesFirst, Idle}
+use Rattle.bp_pool.specs.Tries.{IsMore, Rose, NoneFell, Grew, with_task, place, PopsOwn, StealsFirst, IsBare, TakesFirst, Idle}
 use Rattle.std.proofs.Common.{true≢false}
 use Rattle.bp_pool.specs.declared.tries.Stolen.TheVariants as stolen
 use Rattle.bp_pool.specs.declared.tries.Take.TheVariants as took

@@ -1,5 +1,5 @@
 -- How deques in memory are kept.
-use Rattle.std.specs.Prelude.{◌≡◌, ◌≤◌, ℕ, map, length, Vec}
+use Rattle.std.specs.Prelude.{◌≤◌, map, length, Vec}
 use Rattle.std.specs.declared.alloc.Global.{Global}
 use Rattle.bp_base.specs.Limits.{most_hands}
 use Rattle.bp_base.specs.declared.record.Task.{Task}

@@ -1,14 +1,14 @@
 -- How a pool is laid out and its hands are made.
 use Rattle.std.specs.Prelude.{◌≡◌, ◌+◌, ◌<◌, ℕ, List, [], length, map, All, slice_index_or, replicate}
 use Rattle.std.specs.List.{range_with_len}
-use Rattle.crossbeam_deque.specs.Handles.{view, worker_deque, worker_view, worker_flavor}
+use Rattle.crossbeam_deque.specs.Handles.{worker_deque, worker_view, worker_flavor}
 use Rattle.bp_base.specs.declared.record.Task.{Task}
 use Rattle.bp_pool.specs.declared.deque.Facts.{Facts}
 use Rattle.bp_pool.specs.declared.hand.Theft.{Theft}
 use Rattle.bp_pool.specs.Shares.{facts_of, untouched, fresh}
 use Rattle.bp_pool.specs.Rest.{DequeId, PoolView}
 use Rattle.bp_pool.specs.Hands.{HandView}
-use Rattle.bp_pool.specs.Kept.{Deque, deque_of, deques_of, view_of, IsTheft, each_of, total_of, given_to}
+use Rattle.bp_pool.specs.Kept.{Deque, deques_of, view_of, IsTheft, each_of, total_of, given_to}
 
 abbrev pub ids_of : List Deque → List DequeId
 ids_of ws = map (λ (w : Deque). worker_deque w) ws

@@ -1,4 +1,4 @@
-use Rattle.std.proofs.Common.{ℕ, ◌≡◌, ◌+◌, ◌++◌, [], ◌∷◌, rules, arith, length, ap, ◌∙◌, subst, sym, All, refl}
+use Rattle.std.proofs.Common.{[], ◌∷◌, arith, length, ap, ◌∙◌, subst, sym, All, refl}
 use Rattle.std.specs.List.{sum_by}
 use Rattle.std.proofs.lemmas.List.Sums.{sum_by-append}
 use Rattle.std.proofs.lemmas.List.Elements.{All-append}

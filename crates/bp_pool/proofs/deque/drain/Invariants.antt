@@ -1,4 +1,4 @@
-use Rattle.std.proofs.Common.{◌≡◌, ℕ, ◌+◌, ◌-◌, ◌<◌, ◌≤◌, ◌++◌, length, All, vec_len, vec_capacity}
+use Rattle.std.proofs.Common.{◌≡◌, ◌+◌, ◌-◌, ◌≤◌, ◌++◌, length, All, vec_len, vec_capacity}
 use Rattle.crossbeam_deque.specs.Handles.{worker_view, worker_flavor}
 use Rattle.bp_base.specs.Bags.{AreSame}
 use Rattle.bp_pool.specs.Shares.{HasAll, pushed_of, taken_of, IsTaskOf}

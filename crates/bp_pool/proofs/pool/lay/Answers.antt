@@ -2,7 +2,7 @@ use Rattle.std.proofs.Common.{◌≡◌, ◌<◌, [], length, get_or, sym, subst
 use Rattle.bp_pool.specs.Shares.{facts_of}
 use Rattle.bp_pool.specs.Kept.{total_of}
 use Rattle.bp_pool.specs.Opens.{IsTold}
-use Rattle.bp_pool.proofs.Lays.{may_give, some_left, laid_left, laid_told}
+use Rattle.bp_pool.proofs.Lays.{may_give, some_left}
 use Rattle.bp_pool.proofs.pool.lay.Goals as goal
 
 pub give-requires-clause-all : goal.give-requires-clause-all

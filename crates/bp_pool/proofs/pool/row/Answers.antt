@@ -1,4 +1,4 @@
-use Rattle.std.proofs.Common.{◌≡◌, ℕ, ◌+◌, ◌<◌, ◌∷◌, [], ◌++◌, List, length, get_or, set, map, take, All, sym, ap, ◌∙◌, subst, arith, length-append}
+use Rattle.std.proofs.Common.{◌≡◌, ℕ, ◌+◌, ◌<◌, ◌∷◌, [], ◌++◌, List, length, get_or, map, All, sym, ap, ◌∙◌, subst, arith, length-append}
 use Rattle.std.specs.List.{range_with_len}
 use Rattle.std.proofs.lemmas.List.{length-set, length-map, map-append}
 use Rattle.std.proofs.Math.Seq.{map-set_same}
@@ -6,7 +6,7 @@ use Rattle.crossbeam_deque.specs.Handles.{worker_deque}
 use Rattle.bp_pool.specs.declared.hand.Theft.{Theft}
 use Rattle.bp_pool.specs.Kept.{Deque, deque_of, deques_of, each_of}
 use Rattle.bp_pool.specs.Rest.{DequeId}
-use Rattle.bp_pool.specs.Opens.{ids_of, facts_in, all_facts, IsLeft, IsNewTheft}
+use Rattle.bp_pool.specs.Opens.{ids_of, facts_in, IsLeft, IsNewTheft}
 use Rattle.bp_pool.proofs.Opens.{done_more, todo_less, all_push, range_more, take_more, id_at}
 use Rattle.bp_pool.proofs.pool.row.Goals as goal
 

@@ -1,10 +1,10 @@
-use Rattle.std.proofs.Common.{◌≡◌, ℕ, ◌+◌, ◌-◌, ◌<◌, List, [], ◌∷◌, ◌++◌, length, get_or, slice_get, All, sym, ap, ◌∙◌, subst, arith, length-append}
+use Rattle.std.proofs.Common.{◌≡◌, ◌+◌, ◌-◌, ◌<◌, List, [], ◌∷◌, length, slice_get, All, ap, ◌∙◌, subst, arith, length-append}
 use Rattle.std.specs.Prelude.{Vec}
 use Rattle.std.specs.declared.alloc.Global.{Global}
 use Rattle.bp_pool.specs.declared.hand.Theft.{Theft}
 use Rattle.bp_pool.specs.Rest.{DequeId}
 use Rattle.bp_pool.specs.Hands.{HandView}
-use Rattle.bp_pool.specs.Kept.{Deque, deques_of}
+use Rattle.bp_pool.specs.Kept.{deques_of}
 use Rattle.bp_pool.specs.Opens.{ids_of, IsLeft, IsRow}
 use Rattle.bp_pool.proofs.Lays.{last_all, shorter, found_id, own_facts, same_pool, one_more_hand}
 use Rattle.bp_pool.proofs.pool.seat.Goals as goal

@@ -1,6 +1,6 @@
-use Rattle.std.proofs.Common.{◌≡◌, ℕ, ◌+◌, ◌-◌, ◌<◌, ◌≤◌, ◌⊎◌, true, false, true≢false, Some, None, inl, inr, ⊎_elim, ap, sym, ◌∙◌, subst, arith, rules}
-use Rattle.bp_pool.specs.Tries.{Rose, NoneFell, place, Idle}
-use Rattle.bp_pool.proofs.Tried.{rose_after, rose_before, fell_on, grew_on, each, one_more, idle_start, idle_on, idle_lost, takes_own, takes_first, takes_none, takes_lost}
+use Rattle.std.proofs.Common.{ℕ, ◌+◌, ◌-◌, ◌⊎◌, true≢false, Some, None, inl, inr, ⊎_elim, sym, ◌∙◌, subst, arith}
+use Rattle.bp_pool.specs.Tries.{Rose, NoneFell, Idle}
+use Rattle.bp_pool.proofs.Tried.{rose_after, rose_before, fell_on, grew_on, each, one_more, idle_on, idle_lost, takes_none}
 use Rattle.bp_pool.proofs.tries.take_from.Goals as goal
 use Rattle.bp_pool.proofs.tries.take_from.Goals.{in-Empty, in-Lost}
 

@@ -1,4 +1,4 @@
-use Rattle.std.proofs.Common.{◌≡◌, ℕ, ◌+◌, ◌-◌, ◌<◌, ◌≤◌, ◌⊎◌, true, false, None}
+use Rattle.std.proofs.Common.{◌≡◌, ℕ, ◌-◌, ◌<◌, ◌≤◌, ◌⊎◌, true, false, None}
 use Rattle.bp_pool.specs.Tries.{Rose, NoneFell, Grew, Stays, SomeLost, place, Idle}
 use Rattle.bp_pool.proofs.tries.take_from.Given as goal
 

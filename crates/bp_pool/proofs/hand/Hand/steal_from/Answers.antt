@@ -1,11 +1,9 @@
-use Rattle.std.proofs.Common.{◌≡◌, ◌+◌, ◌<◌, ◌-◌, ◌++◌, ◌∷◌, [], None, length, get_or, set, min, arith, ap, sym, ◌∙◌, subst, refl}
+use Rattle.std.proofs.Common.{◌≡◌, ◌+◌, ◌<◌, ◌-◌, ◌++◌, ◌∷◌, [], length, get_or, set, min, arith, ap, sym, ◌∙◌, refl}
 use Rattle.std.specs.List.{sum_by, flat_map}
 use Rattle.crossbeam_deque.specs.Handles.{worker_view}
 use Rattle.bp_base.specs.declared.record.Task.{Task}
-use Rattle.bp_base.specs.Bags.{AreSame}
 use Rattle.bp_pool.specs.declared.tries.Stolen.TheVariants as stolen
 use Rattle.bp_pool.specs.Shares.{IsTaskOf, taken_of}
-use Rattle.bp_pool.specs.Tries.{with_task}
 use Rattle.bp_pool.specs.Hands.{HandView, top}
 use Rattle.bp_pool.specs.Kept.{each_of, all_taken, taken_by, view_of}
 use Rattle.bp_pool.proofs.Hands.{stole, stolen_same, in_place, theft_at, known_good, grown, as_before, recounted, recount, hand_count}

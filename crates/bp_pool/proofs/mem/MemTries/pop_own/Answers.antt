@@ -1,9 +1,8 @@
-use Rattle.std.proofs.Common.{◌≡◌, ◌<◌, ◌≤◌, ◌-◌, ◌+◌, length, map, set, get_or, None, Some, sym, ap, subst, arith, ◌∙◌}
+use Rattle.std.proofs.Common.{◌≡◌, ◌<◌, ◌-◌, length, set, get_or, None, Some, sym, ap, subst, arith, ◌∙◌}
 use Rattle.std.proofs.lemmas.List.{length-map}
-use Rattle.bp_pool.specs.declared.tries.Stolen.TheVariants as stolen
-use Rattle.bp_pool.specs.Tries.{PopsOwn, StealsFirst}
+use Rattle.bp_pool.specs.Tries.{PopsOwn}
 use Rattle.bp_pool.specs.Mem.{MemView}
-use Rattle.bp_pool.proofs.Mems.{items_of, popped, popped_none, stole, stole_none}
+use Rattle.bp_pool.proofs.Mems.{items_of, popped, popped_none}
 use Rattle.bp_pool.proofs.mem.MemTries.pop_own.Goals as goal
 
 pub returns-in-Some-clause-deques : goal.returns-in-Some-clause-deques
