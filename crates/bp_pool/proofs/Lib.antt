@@ -1,0 +1,7 @@
+mod Deques
+mod Tried
+mod Hands
+mod Mems
+mod Opens
+mod Makes
+mod Lays
