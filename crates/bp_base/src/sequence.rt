@@ -84,3 +84,13 @@ impl<T: Drop> Sequence<T> {
         self.items[at] = item;
     }
 }
+
+impl<T: Copy> Sequence<T> {
+    /// Copies as many elements over those that are there.
+    pub fn copy_from(&mut self, items: &[T])
+        requires { length self.old ≡ length items.now }
+        ensures { self.new ≡ items.now }
+    {
+        self.items.copy_from_slice(items);
+    }
+}

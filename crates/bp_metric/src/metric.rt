@@ -60,6 +60,15 @@ impl Metric {
         Metric::on(alloc, tree, Sheet::Square)
     }
 
+    /// The tree.
+    pub fn tree(&self) -> &Tree
+        ensures tree { result.now ≡ self.now.tree }
+        ensures metric { IsMetric self.now }
+    {
+        let _tree = self.tree.parents();
+        &self.tree
+    }
+
     pub fn sheet(&self) -> Sheet
         ensures sheet { result ≡ self.now.sheet }
         ensures metric { IsMetric self.now }

@@ -1,4 +1,4 @@
 mod Steps
-mod Trails
+pub mod Trails
 mod Done
-mod Fine
+pub mod Fine

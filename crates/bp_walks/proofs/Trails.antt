@@ -1,12 +1,13 @@
 -- Lists that are built from the back of a table, and the cycles and chains that they are.
 use Rattle.std.proofs.Common.{◌≡◌, ◌≢◌, ℕ, zero, suc, ◌+◌, ◌-◌, ◌<◌, ◌≤◌, List, [], ◌∷◌, ◌++◌, length, get_or, set, take, drop, refl, sym, ◌∙◌, ap, subst, arith}
 use Rattle.std.specs.List.{All}
-use Rattle.std.proofs.lemmas.List.{take-append-drop, length-take-le, length-drop, length-set, take_all, drop_more, drop-set, get_or_append_left, get_or-drop, get_or-take, get_or-set_same}
+use Rattle.std.proofs.lemmas.List.{length-append, take-append-drop, length-take-le, length-drop, length-set, take_all, drop_more, drop-set, get_or_append_left, get_or-drop, get_or-take, get_or-set_same}
 use Rattle.std.proofs.lemmas.List.Elements.{All-cons}
 use Rattle.std.proofs.lemmas.List.Kept.{AllPairs-cons}
 use Rattle.bp_base.specs.declared.point.Axis.{Axis}
 use Rattle.bp_base.specs.declared.path.Step.{Step}
 use Rattle.bp_base.specs.Chain.{IsChainList}
+use Rattle.bp_base.specs.Limits.{most_number}
 use Rattle.bp_base.specs.Tree.{TreeValue, IsTree, IsLeaf, leaf_count}
 use Rattle.bp_metric.specs.Distance.{leaf_dist}
 use Rattle.bp_metric.specs.Chains.{Places, IsChain, IsCycle, HasPairsOf, first_of, last_of}
@@ -14,12 +15,25 @@ use Rattle.bp_metric.specs.Coordinates.{IsLoop, IsLow, AreShown}
 use Rattle.bp_metric.proofs.Lows.{AreLows, placed_leaves, few_leaves, chain_from_placed, last_more}
 use Rattle.bp_metric.proofs.Cycles.{cycle_turned, all_turned, chain_front}
 use Rattle.bp_metric.proofs.Shown.{shown_before, begins_zero}
-use Rattle.bp_walks.specs.Lows.{places, IsLowTable, ShowsLeaf}
+use Rattle.bp_walks.specs.Lows.{places, ShowsLeaf}
 
 abbrev at_leaf : List ℕ → ℕ → ℕ
 at_leaf xs i = get_or xs i 0
 
 -- Chains and cycles.
+
+pub turned_list : (xs ys : List ℕ) (k : ℕ) → IsChainList xs → ys ≡ drop k xs ++ take k xs → IsChainList ys
+turned_list xs ys k list is =
+    let whole : take k xs ++ drop k xs ≡ xs = take-append-drop k xs in
+    let all : All (λ i. i ≤ most_number) (drop k xs ++ take k xs) =
+    all_turned (λ i. i ≤ most_number) (take k xs) (drop k xs) (subst (All (λ i. i ≤ most_number)) (sym whole) list.small) in
+    let long : length ys ≡ length xs =
+    omega (arith, ap length is, length-append (drop k xs) (take k xs), length-append (take k xs) (drop k xs), ap length whole) in
+    record {
+      some = omega (arith, long, list.some);
+      short = omega (arith, long, list.short);
+      small = subst (All (λ i. i ≤ most_number)) (sym is) all;
+    }
 
 module _ (n : ℕ) (path : List Step) (axis : Axis) where
   -- what a chain of few leaves can be kept as
@@ -97,10 +111,10 @@ module _ (n : ℕ) (path : List Step) (axis : Axis) where
       subst (IsCycle n path axis) (sym front) (front_cycle x (take q xs) (drop (q + 1) (x ∷ xs)) p pairs c_too ends placed)
 
 -- what the table holds from place `at` on
-head_of : (trail : List ℕ) (at : ℕ) → at < length trail → drop at trail ≡ get_or trail at 0 ∷ drop (at + 1) trail
+pub head_of : (trail : List ℕ) (at : ℕ) → at < length trail → drop at trail ≡ get_or trail at 0 ∷ drop (at + 1) trail
 head_of trail at within = drop_more trail at 0 within
 
-pushed : (trail : List ℕ) (at p : ℕ) → 1 ≤ at → at ≤ length trail → drop (at - 1) (set trail (at - 1) p) ≡ p ∷ drop at trail
+pub pushed : (trail : List ℕ) (at p : ℕ) → 1 ≤ at → at ≤ length trail → drop (at - 1) (set trail (at - 1) p) ≡ p ∷ drop at trail
 pushed trail at p from within =
     let next : at - 1 + 1 ≡ at = omega arith in
     drop-set trail (at - 1) p (omega arith) ∙ ap (λ (k : ℕ). p ∷ drop k trail) next
@@ -184,13 +198,7 @@ pub record IsShownTrail (T : TreeValue) (path : List Step) (axis : Axis) (last :
   pub ends : last_of (drop at trail) ≡ last
   pub shown : AreShown T path axis (drop at trail)
 
-module _ (T : TreeValue) (t : IsTree T) (path : List Step) (pairs : HasPairsOf (leaf_count T) path) (axis : Axis) (lows : List ℕ) (table : IsLowTable T path axis lows) where
-  abbrev pub low_at : ℕ → ℕ
-  low_at i = get_or lows i 0
-
-  pub exact : AreLows T path axis low_at
-  exact = record { meets = table.meets; made_up = table.made_up }
-
+module _ (T : TreeValue) (t : IsTree T) (path : List Step) (pairs : HasPairsOf (leaf_count T) path) (axis : Axis) (f : ℕ → ℕ) (exact : AreLows T path axis f) where
   pub shown_start : (trail : List ℕ) (last : ℕ) → length trail ≡ places → IsLeaf T last → IsShownTrail T path axis last (set trail 32 last) 32
   shown_start trail last long leaf =
       let none : drop 33 trail ≡ [] = nothing_left trail 33 (omega arith) in
@@ -214,7 +222,7 @@ module _ (T : TreeValue) (t : IsTree T) (path : List Step) (pairs : HasPairsOf (
       let all = subst (All (λ i. (1 ≤ i) × (i ≤ leaf_count T))) (head_of trail at (omega (arith, is.long, is.within))) is.chain.are_leaves in
       all 0 0 (omega arith)
 
-  pub shown_more : (trail : List ℕ) (at last p : ℕ) → IsShownTrail T path axis last trail at → Places path axis p (get_or trail at 0) → low_at p + leaf_dist T p (get_or trail at 0) ≡ low_at (get_or trail at 0) → ((c : ℕ) → c < p → Places path axis c (get_or trail at 0) → low_at c + leaf_dist T c (get_or trail at 0) ≡ low_at (get_or trail at 0) → ⊥) → (1 ≤ at) × IsShownTrail T path axis last (set trail (at - 1) p) (at - 1)
+  pub shown_more : (trail : List ℕ) (at last p : ℕ) → IsShownTrail T path axis last trail at → Places path axis p (get_or trail at 0) → f p + leaf_dist T p (get_or trail at 0) ≡ f (get_or trail at 0) → ((c : ℕ) → c < p → Places path axis c (get_or trail at 0) → f c + leaf_dist T c (get_or trail at 0) ≡ f (get_or trail at 0) → ⊥) → (1 ≤ at) × IsShownTrail T path axis last (set trail (at - 1) p) (at - 1)
   shown_more trail at last p is placed makes first =
       let x : ℕ = get_or trail at 0 in
       let rest : List ℕ = drop (at + 1) trail in
@@ -222,13 +230,13 @@ module _ (T : TreeValue) (t : IsTree T) (path : List Step) (pairs : HasPairsOf (
       let l = placed_leaves (leaf_count T) path axis p x pairs placed in
       let old : IsChain (leaf_count T) path axis (x ∷ rest) = subst (IsChain (leaf_count T) path axis) head is.chain in
       let c_head : IsChain (leaf_count T) path axis (p ∷ x ∷ rest) =
-      chain_from_placed T t path pairs axis low_at table.meets p (x ∷ rest) (l.0, l.1) (placed, old.placed) in
+      chain_from_placed T t path pairs axis f exact.meets p (x ∷ rest) (l.0, l.1) (placed, old.placed) in
       let c : IsChain (leaf_count T) path axis (p ∷ drop at trail) =
       subst (λ (xs : List ℕ). IsChain (leaf_count T) path axis (p ∷ xs)) (sym head) c_head in
       let room : 1 ≤ at = omega (arith, few_leaves (leaf_count T) (p ∷ drop at trail) c.are_leaves c.differ, length-drop at trail, is.long, t.leaves_few) in
       let whole = pushed trail at p room (omega (arith, is.long, is.within)) in
       let shown_old : AreShown T path axis (x ∷ rest) = subst (AreShown T path axis) head is.shown in
-      let shown_new : AreShown T path axis (p ∷ x ∷ rest) = (shown_before T t path pairs axis low_at exact p x placed makes first, shown_old) in
+      let shown_new : AreShown T path axis (p ∷ x ∷ rest) = (shown_before T t path pairs axis f exact p x placed makes first, shown_old) in
       let ends_new : last_of (p ∷ x ∷ rest) ≡ last = last_more p x rest ∙ ap last_of (sym head) ∙ is.ends in (
         room,
         record {
@@ -240,11 +248,11 @@ module _ (T : TreeValue) (t : IsTree T) (path : List Step) (pairs : HasPairsOf (
         },
       )
 
-  pub shown_whole : (trail : List ℕ) (at last : ℕ) (leaves : List ℕ) → IsShownTrail T path axis last trail at → leaves ≡ take (33 - at) (drop at trail) → ((a : ℕ) → Places path axis a (get_or trail at 0) → low_at a + leaf_dist T a (get_or trail at 0) ≡ low_at (get_or trail at 0) → ⊥) → ShowsLeaf T path axis last leaves
+  pub shown_whole : (trail : List ℕ) (at last : ℕ) (leaves : List ℕ) → IsShownTrail T path axis last trail at → leaves ≡ take (33 - at) (drop at trail) → ((a : ℕ) → Places path axis a (get_or trail at 0) → f a + leaf_dist T a (get_or trail at 0) ≡ f (get_or trail at 0) → ⊥) → ShowsLeaf T path axis last leaves
   shown_whole trail at last leaves is same none =
       let first : get_or (drop at trail) 0 0 ≡ get_or trail at 0 = ap (λ (xs : List ℕ). get_or xs 0 0) (head_of trail at (omega (arith, is.long, is.within))) in
       let begins : IsLow T path axis (first_of (drop at trail)) 0 =
-      subst (λ (i : ℕ). IsLow T path axis i 0) (sym first) (begins_zero T t path pairs axis low_at exact (get_or trail at 0) (shown_leaf trail at last is) none) in
+      subst (λ (i : ℕ). IsLow T path axis i 0) (sym first) (begins_zero T t path pairs axis f exact (get_or trail at 0) (shown_leaf trail at last is) none) in
       let all : take (33 - at) (drop at trail) ≡ drop at trail = take_all (33 - at) (drop at trail) (omega (arith, length-drop at trail, is.long)) in
       let whole : ShowsLeaf T path axis last (drop at trail) = record { chain = is.chain; ends = is.ends; shown = is.shown; begins = begins } in
       subst (ShowsLeaf T path axis last) (sym (same ∙ all)) whole

@@ -1,5 +1,6 @@
 // A cycle among leaves each of which has another one placed before it.
-ghost use Rattle.std.specs.Prelude.{◌≡◌, ◌≤◌, ◌<◌, ℕ, MatchOption, All, length, slice_index};
+ghost use Rattle.std.specs.Prelude.{◌≡◌, ◌≤◌, ◌<◌, ℕ, MatchOption, All, length, slice_index, drop, take, ◌++◌};
+ghost use Rattle.bp_base.specs.Chain.{IsChainList};
 ghost use Rattle.bp_metric.specs.Chains.{HasPairsOf, IsCycle, Places};
 ghost use Rattle.bp_metric.specs.Coordinates.{IsLoop};
 ghost use Rattle.bp_walks.specs.Lows.{places};
@@ -27,7 +28,7 @@ pub fn cycle_from(alloc: Global, path: &Path, axis: Axis, n: u64, open: &[u64], 
             None => unreachable!(),
         };
         match place_of(&trail[at..], before) {
-            Some(last) => return turned(alloc, path, axis, n, &mut trail[at..at + last + 1]),
+            Some(last) => return begun_at_least(alloc, &mut trail[at..at + last + 1]),
             None => {
                 at -= 1;
                 trail[at] = before;
@@ -48,11 +49,10 @@ fn place_of(numbers: &[u64], wanted: u64) -> Option<usize>
     None
 }
 
-// The cycle begun at its least leaf.
-fn turned(alloc: Global, path: &Path, axis: Axis, n: u64, cycle: &mut [u64]) -> Chain
-    requires few { n < places }
-    requires cycle { IsCycle n path.now axis cycle.old }
-    ensures { IsLoop n path.now axis result }
+/// The list of a cycle, begun at its least number.
+pub fn begun_at_least(alloc: Global, cycle: &mut [u64]) -> Chain
+    requires { IsChainList cycle.old }
+    ensures { (k : ℕ) × (k < length cycle.old) × (result ≡ drop k cycle.old ++ take k cycle.old) × All (λ i. slice_index cycle.old k ≤ i) cycle.old }
 {
     let first = place_of_least(cycle);
     cycle.rotate_left(first);

@@ -11,5 +11,6 @@ mod shown;
 mod tests;
 mod walking;
 
+pub use cycles::begun_at_least;
 pub use judging::{Judged, judge_greatest};
 pub use walking::{cycle_on, least};
