@@ -9,6 +9,8 @@ mod links;
 mod orders;
 mod raising;
 mod showing;
+#[cfg(test)]
+mod tests;
 mod warm;
 mod work;
 

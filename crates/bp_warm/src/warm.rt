@@ -144,13 +144,13 @@ impl Warm {
             Some(step) => step,
             None => unreachable!(),
         };
-        let now = self.steps.len();
+        let shorter = self.steps.len();
         shrink_both(
             &self.tree,
             &self.steps,
             step,
             order_of(step),
-            &self.frames[now],
+            &self.frames[shorter],
             &mut self.x,
             &mut self.y,
         );
