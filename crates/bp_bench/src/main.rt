@@ -1,0 +1,144 @@
+//! Times extensions with retractions of a warm path on 16 leaves, and prints how many are done a second on standard error.
+#![tactic(auto)]
+
+ghost use Rattle.std.specs.Prelude.{◌≡◌, ◌≤◌, ◌<◌, ◌*◌, ◌-◌, ◌+◌, ◌/◌, ◌++◌, ℕ, IsTrue, IfOk, OnOk, length};
+ghost use Rattle.bp_base.specs.Path.{IsPairOf};
+ghost use Rattle.bp_base.specs.Tree.{leaf_count};
+ghost use Rattle.bp_metric.specs.Samples.{is_sample, letters};
+ghost use Rattle.bp_warm.specs.Warm.{pair_count};
+
+use bp_base::{Choice, Name, NoMemory, Pair, Step, Tree};
+use bp_metric::Metric;
+use bp_warm::Warm;
+use std::alloc::Global;
+use std::io;
+use std::process::ExitCode;
+use std::rt::Runtime;
+use std::time::Instant;
+
+// The names a, b, c, ..
+fn names(alloc: Global, count: usize) -> Result<Vec<Name>, NoMemory>
+    requires { count ≤ 26 }
+    ensures { IfOk result (λ v. v.items ≡ letters count) }
+{
+    let mut names = Vec::new(alloc);
+    for number in 0..count {
+        match Name::new(&[97 + number as u8]) {
+            Some(name) => names.push(name)?,
+            None => return Err(NoMemory),
+        }
+    }
+    Ok(names)
+}
+
+fn tree(alloc: Global, parents: &[u64], lengths: &[u64]) -> Result<Tree, NoMemory>
+    requires { IsTrue (is_sample parents.now lengths.now) }
+{
+    let names = names(alloc, parents.len())?;
+    let parents = Vec::from_slice(alloc, parents)?;
+    let lengths = Vec::from_slice(alloc, lengths)?;
+    Ok(Tree::of(parents, lengths, names))
+}
+
+// Adds the steps whose pairs are pairs of leaves and that close no cycle, and answers how many were added.
+fn go_down(metric: &Metric, warm: &mut Warm, steps: &[(u64, u64, Choice)]) -> u64
+    requires metric { metric.now ≡ warm.old.metric }
+    requires empty { length warm.old.path ≡ 0 }
+    ensures metric { warm.new.metric ≡ warm.old.metric }
+    ensures depth { result ≡ length warm.new.path }
+{
+    let n = metric.leaves();
+    let mut depth = 0;
+    for (i, j, choice) in steps {
+        if *i < 1 || *i >= *j || n < *j || depth >= n * (n - 1) / 2 {
+            return depth;
+        }
+        depth = add(metric, warm, depth, Pair { i: *i, j: *j }, *choice);
+    }
+    depth
+}
+
+fn add(metric: &Metric, warm: &mut Warm, depth: u64, pair: Pair, choice: Choice) -> u64
+    requires metric { metric.now ≡ warm.old.metric }
+    requires depth { depth ≡ length warm.old.path }
+    requires room { length warm.old.path < pair_count metric.now.tree }
+    requires pair { IsPairOf (leaf_count metric.now.tree) pair }
+    ensures metric { warm.new.metric ≡ warm.old.metric }
+    ensures depth { result ≡ length warm.new.path }
+{
+    let _leaves = metric.leaves();
+    match warm.extend(metric, Step { pair, choice }) {
+        Some(_) => depth,
+        None => depth.saturating_add(1),
+    }
+}
+
+// Takes all steps off.
+fn go_up(warm: &mut Warm, depth: u64)
+    requires { depth ≡ length warm.old.path }
+    ensures metric { warm.new.metric ≡ warm.old.metric }
+    ensures empty { length warm.new.path ≡ 0 }
+{
+    for _ in 0..depth {
+        warm.retract();
+    }
+}
+
+const ROUNDS: u64 = 200_000;
+
+fn timed(rt: &impl Runtime, metric: &Metric, warm: &mut Warm) -> io::Result<()>
+    requires metric { metric.now ≡ warm.old.metric }
+    requires empty { length warm.old.path ≡ 0 }
+{
+    let steps = [
+        (1, 2, Choice::Left),
+        (1, 3, Choice::Below),
+        (2, 3, Choice::Above),
+        (1, 4, Choice::Left),
+        (2, 4, Choice::Below),
+        (3, 4, Choice::Left),
+        (1, 5, Choice::Below),
+        (2, 5, Choice::Left),
+        (3, 5, Choice::Above),
+        (4, 5, Choice::Below),
+        (1, 6, Choice::Left),
+        (2, 6, Choice::Left),
+        (3, 6, Choice::Left),
+        (4, 6, Choice::Left),
+        (5, 6, Choice::Below),
+        (6, 7, Choice::Left),
+        (1, 7, Choice::Below),
+        (8, 9, Choice::Left),
+        (7, 9, Choice::Above),
+        (6, 16, Choice::Left),
+    ];
+    let start = Instant::now(rt)?;
+    let mut count = 0u64;
+    for _ in 0..ROUNDS {
+        let depth = go_down(metric, warm, &steps);
+        go_up(warm, depth);
+        count = count.saturating_add(depth);
+    }
+    let spent = start.elapsed(rt)?.as_millis();
+    eprintln!(rt; "{count} extensions with retractions in {spent} ms")?;
+    Ok(())
+}
+
+fn prepared(alloc: Global) -> Result<(Metric, Warm), NoMemory>
+    ensures { IfOk result (λ p. (p.0 ≡ p.1.metric) × (length p.1.path ≡ 0)) }
+{
+    let lengths = [0, 3, 1, 4, 1, 5, 9, 2, 6, 5, 3, 5, 8, 9, 7, 9, 3];
+    let tree = tree(alloc, &[0; 17], &lengths)?;
+    let metric = Metric::of(alloc, &tree)?;
+    let warm = Warm::open(alloc, &metric)?;
+    Ok((metric, warm))
+}
+
+fn main(rt: HostRuntime) -> io::Result<ExitCode> {
+    let (metric, mut warm) = match prepared(rt.alloc()) {
+        Ok(prepared) => prepared,
+        Err(NoMemory) => return Ok(ExitCode::from(1)),
+    };
+    timed(&rt, &metric, &mut warm)?;
+    Ok(ExitCode::from(0))
+}

@@ -1,0 +1,12 @@
+mod RowRaised
+mod Rows
+mod Pulling
+mod Linked
+mod Settling
+mod Ordering
+mod Backs
+mod Grown
+mod Bests
+mod HalfLaws
+mod Filled
+mod Keeping

@@ -1,0 +1,17 @@
+//! Least coordinates of a path, kept while steps are added at its end and taken off.
+#![tactic(auto)]
+
+mod back;
+mod frames;
+mod growing;
+mod halves;
+mod links;
+mod orders;
+mod raising;
+mod showing;
+#[cfg(test)]
+mod tests;
+mod warm;
+mod work;
+
+pub use warm::Warm;
