@@ -6,6 +6,8 @@ use bp_base::{Name, Sheet, Tree};
 use std::alloc::Global;
 use std::test::Fail;
 
+fn shares<T: Sync>(_: &T) {}
+
 fn named(letter: &[u8]) -> Result<Name, Fail>
     ensures { IfOk result (λ name. name ≡ letter.now) }
 {
@@ -70,6 +72,7 @@ fn facts(metric: &Metric, i: u64, j: u64) -> (u64, u64, bool)
 fn sheets(rt: HostRuntime) -> Result<(), Fail> {
     let tree = star(rt.alloc(), [2, 2, 2, 1, 1])?;
     let square = Metric::of(rt.alloc(), &tree)?;
+    shares(&square);
     assert_eq!(rt; square.sheet(), Sheet::Square);
     let strip = Metric::on(rt.alloc(), &tree, Sheet::Strip { width: 4 })?;
     assert_eq!(rt; strip.sheet(), Sheet::Strip { width: 4 });
