@@ -74,6 +74,14 @@ fn two_hands(rt: HostRuntime) -> Result<(), Fail> {
 }
 
 #[test]
+fn all_come_back(rt: HostRuntime) -> Result<(), Fail> {
+    let hands = open(rt.alloc(), 3, 4, task(rt.alloc(), 4, 10))?;
+    let gathered = gather(rt.alloc(), hands)?;
+    assert!(rt; gathered.pushed == 1 && gathered.taken == 0 && gathered.left.len() == 1);
+    Ok(())
+}
+
+#[test]
 fn one_hand(rt: HostRuntime) -> Result<(), Fail> {
     let mut hands = open(rt.alloc(), 1, 4, task(rt.alloc(), 4, 10))?;
     let Some(mut a) = hands.pop() else {
