@@ -5,3 +5,5 @@ mod Mems
 mod Opens
 mod Makes
 mod Lays
+mod Rows
+mod Parts

@@ -1,7 +1,10 @@
 -- The deques of a pool are dealt out.
 use Rattle.std.proofs.Common.{◌≡◌, ◌≢◌, ℕ, zero, suc, ◌+◌, ◌<◌, ◌≤◌, List, [], ◌∷◌, ◌++◌, length, set, get_or, drop, take, All, sym, refl, ap, ◌∙◌, subst, arith}
-use Rattle.std.specs.List.{range_with_len}
-use Rattle.bp_pool.specs.Shares.{untouched, rest_of}
+use Rattle.std.specs.List.{range_with_len, flat_map, sum_by}
+use Rattle.bp_base.specs.declared.record.Task.{Task}
+use Rattle.bp_pool.specs.declared.deque.Deeds.{Deeds}
+use Rattle.bp_pool.specs.declared.deque.Rights.{Rights}
+use Rattle.bp_pool.specs.Shares.{untouched, rest_of, pushed_of}
 use Rattle.crossbeam_deque.specs.Handles.{worker_deque}
 use Rattle.bp_pool.specs.Kept.{Deque}
 use Rattle.bp_pool.specs.Opens.{ids_of}
@@ -67,3 +70,11 @@ pub id_at : (ws : List Deque) (i : ℕ) (w : Deque) → i < length ws → get_or
 id_at [] i w lt at = absurd (omega arith)
 id_at (v ∷ vs) zero w lt at = ap (λ (u : Deque). worker_deque u) at
 id_at (v ∷ vs) (suc i) w lt at = id_at vs i w (omega (arith, lt)) at
+
+-- nothing is pushed under a new right
+pub untouched_push : (each : ℕ) (v : Rights) → v.deeds ≡ untouched each → (h : Task → ℕ) → sum_by h (pushed_of v) ≡ 0
+untouched_push each v is h = ap (λ (ds : List Deeds). sum_by h (flat_map (λ (d : Deeds). d.pushed) ds)) is ∙ none each h
+  where
+    none : (n : ℕ) (h : Task → ℕ) → sum_by h (flat_map (λ (d : Deeds). d.pushed) (untouched n)) ≡ 0
+    none zero h = refl
+    none (suc n) h = none n h

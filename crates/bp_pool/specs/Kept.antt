@@ -1,6 +1,6 @@
 -- How a hand is kept.
 use Rattle.std.specs.Prelude.{◌≡◌, ◌≤◌, ◌<◌, ◌+◌, ◌-◌, ◌==◌, cond, min, ℕ, List, [], ◌∷◌, ◌++◌, All, length, map, slice_get, Some}
-use Rattle.std.specs.List.{flat_map, range_with_len}
+use Rattle.std.specs.List.{flat_map, range_with_len, sum_by}
 use Rattle.crossbeam_deque.specs.Handles.{view, IsPassOf, stealer_deque, worker_deque, worker_view, worker_flavor}
 use Rattle.bp_base.specs.declared.record.Task.{Task}
 use Rattle.std.specs.declared.alloc.Global.{Global}
@@ -60,11 +60,12 @@ total_of hands = rights_of hands hands
 abbrev pub given_to : ℕ → Task → List Task
 given_to number root = cond (number == 1) (root ∷ []) []
 
--- The pass is of the thief's deque, has so many rights, and knows the leaves.
+-- The pass is of the thief's deque, has so many rights, knows the leaves, and never pushed.
 pub record IsTheft (each leaves : ℕ) (t : Theft) : Type 0 where
   pub of : IsPassOf (stealer_deque t.thief) t.pass
   pub count : count_of (view_of t) ≡ each
   pub leaves_are : 0 < each → (view_of t).facts.leaves ≡ leaves
+  pub no_push : (h : Task → ℕ) → sum_by h (pushed_of (view_of t)) ≡ 0
 
 -- What the deque was told is of the hand's place, and each pass is as it should be.
 pub record IsTold (facts : Facts) (number : ℕ) (thefts : List Theft) : Type 0 where

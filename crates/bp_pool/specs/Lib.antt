@@ -6,3 +6,4 @@ pub mod Kept
 pub mod Mem
 pub mod Memory
 pub mod Opens
+pub mod Rows

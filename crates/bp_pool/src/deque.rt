@@ -1,5 +1,7 @@
 //! One deque of tasks: what it was given and what was pushed is what it holds and what all passes took.
 ghost use Rattle.std.specs.Prelude.{◌≡◌, ℕ, ◌+◌, ◌<◌, ◌≤◌, List, [], ◌∷◌, ◌++◌, IfOk, IfErr, MatchOption, MatchResult, length, All};
+ghost use Rattle.std.specs.List.{sum_by};
+ghost use Rattle.bp_base.specs.declared.record.Task.{Task};
 ghost use Rattle.crossbeam_deque.specs.Steals.{MatchSteal};
 ghost use Rattle.crossbeam_deque.specs.Handles.{view, IsPassOf, SamePass, worker_deque, stealer_deque, worker_view, worker_flavor, stealer_flavor, SameWorker};
 ghost use Rattle.bp_base.specs.Bags.{AreSame};
@@ -199,6 +201,7 @@ pub fn pop(owner: &mut Owner) -> Option<Task>
 pub fn steal(thief: &Thief, pass: &mut TaskPass) -> Steal<Task>
     requires { IsPassOf (stealer_deque thief.now) pass.old × Works (view pass.old) }
     ensures same { SamePass pass.old pass.new }
+    ensures pushed { (h : Task → ℕ) → sum_by h (pushed_of (view pass.new)) ≡ sum_by h (pushed_of (view pass.old)) }
     ensures done { MatchSteal result (view pass.new ≡ view pass.old) (view pass.new ≡ view pass.old) (λ t. (view pass.new ≡ with_taken (view pass.old) (t ∷ [])) × IsTaskOf (view pass.old).facts.leaves t) }
 {
     thief.steal_as::<Taking>(pass)

@@ -7,10 +7,11 @@ ghost use Rattle.bp_base.specs.Limits.{most_hands};
 ghost use Rattle.bp_base.specs.declared.record.Task.{Task};
 ghost use Rattle.bp_pool.specs.Shares.{IsTaskOf, Works};
 ghost use Rattle.bp_pool.specs.Tries.{Stays, NoneFell, Rose, Grew, MatchStolen, MatchTake, with_task, of_stolen};
-ghost use Rattle.bp_pool.specs.Hands.{HandView, hands_of, rest_of_hand, IsSameHand, idle_after, IsAllTaken, HasCauses, of_take};
-ghost use Rattle.std.specs.Prelude.{IfOk, slice_get, replicate};
+ghost use Rattle.bp_pool.specs.Hands.{HandView, hands_of, rest_of_hand, IsSameHand, idle_after, IsAllTaken, HasCauses, of_take, top};
+ghost use Rattle.std.specs.Prelude.{min, IfOk, slice_get, replicate};
 ghost use Rattle.crossbeam_deque.specs.Handles.{worker_deque};
 ghost use Rattle.bp_pool.specs.Kept.{IsTheft, taken_by, deque_of, deques_of, total_of, given_to};
+ghost use Rattle.bp_pool.specs.Rows.{IsParts};
 ghost use Rattle.bp_pool.specs.Opens.{IsLeft, IsRow, facts_in, new_hand};
 
 use crate::count::count_up;
@@ -163,6 +164,21 @@ impl Hand {
         ensures causes { HasCauses self.old self.new result }
     {
         take_from(self)
+    }
+
+    /// Its own deque, and its passes.
+    pub(crate) fn into_parts(self) -> (Owner, Vec<Theft>)
+        ensures { IsParts self result.0 result.1.items }
+    {
+        let Hand { own, thefts, .. } = self;
+        (own, thefts)
+    }
+
+    /// How many tasks it pushed, and how many it took.
+    pub(crate) fn counts(&self) -> (u64, u64)
+        ensures { (result.0 ≡ min (length self.now.pushed) top) × (result.1 ≡ min (length self.now.taken) top) }
+    {
+        (self.pushes, self.takes)
     }
 
     pub(crate) fn own_number(&self) -> u64

@@ -3,11 +3,13 @@
 
 mod count;
 mod deque;
+mod gathering;
 mod hand;
 mod mem;
 mod pool;
 mod tries;
 
+pub use gathering::{Gathered, gather};
 pub use hand::Hand;
 pub use mem::MemTries;
 pub use pool::open;

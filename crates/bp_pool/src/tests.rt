@@ -74,6 +74,14 @@ fn two_hands(rt: HostRuntime) -> Result<(), Fail> {
 }
 
 #[test]
+fn all_come_back(rt: HostRuntime) -> Result<(), Fail> {
+    let hands = open(rt.alloc(), 3, 4, task(rt.alloc(), 4, 10))?;
+    let gathered = gather(rt.alloc(), hands)?;
+    assert!(rt; gathered.pushed == 1 && gathered.taken == 0 && gathered.left.len() == 1);
+    Ok(())
+}
+
+#[test]
 fn one_hand(rt: HostRuntime) -> Result<(), Fail> {
     let mut hands = open(rt.alloc(), 1, 4, task(rt.alloc(), 4, 10))?;
     let Some(mut a) = hands.pop() else {
@@ -81,5 +89,79 @@ fn one_hand(rt: HostRuntime) -> Result<(), Fail> {
     };
     assert_eq!(rt; bound_of(a.take()), 10);
     assert_eq!(rt; bound_of(a.take()), 0);
+    Ok(())
+}
+
+fn tasks<const N: usize>(alloc: Global, bounds: [u64; N]) -> Result<Vec<Task>, Fail> {
+    let mut all = Vec::new(alloc);
+    for bound in bounds {
+        all.push(task(alloc, 4, bound))?;
+    }
+    Ok(all)
+}
+
+// The second of three hands, with the deques given.
+fn second_of_three(alloc: Global, deques: [Vec<Task>; 3]) -> Result<MemTries, Fail> {
+    let deques = Vec::from_array(alloc, deques)?;
+    let misses = Vec::from_array(alloc, [0, 0, 0])?;
+    Ok(MemTries {
+        number: 2,
+        deques,
+        misses,
+    })
+}
+
+#[test]
+fn take_from_memory(rt: HostRuntime) -> Result<(), Fail> {
+    let first = tasks(rt.alloc(), [11, 12])?;
+    let second = tasks(rt.alloc(), [21, 22])?;
+    let third = tasks(rt.alloc(), [31])?;
+    let mut tries = second_of_three(rt.alloc(), [first, second, third])?;
+    for bound in [22, 21, 31, 11, 12, 0] {
+        assert_eq!(rt; bound_of(take_from(&mut tries)), bound);
+    }
+    let MemTries { misses, .. } = tries;
+    assert!(rt; misses.as_slice() == [1, 4, 3].as_slice());
+    Ok(())
+}
+
+// Pushes two tasks and takes until nothing comes, and counts each bound that it took.
+fn hold_turn(alloc: Global, hand: &mut Hand, place: usize, counts: &[AtomicU64; 9])
+    requires { (hand.old.pool.leaves ≡ 4) × (place < 4) }
+{
+    add(alloc, hand, 4, 2 * place as u64 + 1);
+    add(alloc, hand, 4, 2 * place as u64 + 2);
+    for _ in 0..20 {
+        if let Take::Task(task) = hand.take() {
+            counts[(task.bound % 9) as usize].fetch_add(1, Ordering::SeqCst);
+        }
+    }
+}
+
+// Four hands, each in a thread of its own.
+fn four_turns<R: Threads + Sync>(rt: &R, alloc: Global, hands: &mut [Hand], counts: &[AtomicU64; 9])
+    requires { All (λ h. h.pool.leaves ≡ 4) hands.old × (length hands.old ≡ 4) }
+{
+    thread::for_each_mut(rt, hands, 4, &|k, hand| hold_turn(alloc, hand, k, counts));
+}
+
+#[test]
+fn four_threads(rt: HostRuntime) -> Result<(), Fail> {
+    let mut hands = open(rt.alloc(), 4, 4, task(rt.alloc(), 4, 0))?;
+    let counts = [
+        AtomicU64::new(0),
+        AtomicU64::new(0),
+        AtomicU64::new(0),
+        AtomicU64::new(0),
+        AtomicU64::new(0),
+        AtomicU64::new(0),
+        AtomicU64::new(0),
+        AtomicU64::new(0),
+        AtomicU64::new(0),
+    ];
+    four_turns(&rt, rt.alloc(), hands.as_mut_slice(), &counts);
+    for k in 0..9 {
+        assert_eq!(rt; counts[k].load(Ordering::SeqCst), 1);
+    }
     Ok(())
 }

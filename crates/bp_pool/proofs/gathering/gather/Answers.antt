@@ -1,0 +1,37 @@
+use Rattle.std.proofs.Common.{◌≡◌, min, arith, ap, ◌∙◌, List}
+use Rattle.bp_pool.specs.Hands.{HandView, top}
+use Rattle.bp_pool.specs.Rows.{count_pushed, count_taken}
+use Rattle.bp_pool.proofs.Parts.{are_owners, are_of_us, are_full, leaves_now, all_same, flat_length}
+use Rattle.bp_pool.proofs.gathering.gather.Goals as goal
+
+pub absorb-requires : goal.absorb-requires
+absorb-requires c =
+    let pool = c.requires.0 in
+    let us = c.in_ok-owners.owners.items in
+    let parted = c.in_ok-owners.ensures pool c.requires.1 in
+    (are_owners pool c.args.hands.items us us c.in_ok-owners.thefts.items parted, are_of_us pool c.args.hands.items us us c.in_ok-owners.thefts.items parted)
+
+pub drain_all-requires : goal.drain_all-requires
+drain_all-requires c =
+    let pool = c.requires.0 in
+    let us = c.in_ok-owners.owners.items in
+    let parted = c.in_ok-owners.ensures pool c.requires.1 in
+    are_full pool c.args.hands.items us c.absorb.new.owners.items c.in_ok-owners.thefts.items parted c.requires.1 c.absorb.ensures.owners c.absorb.ensures.rights
+
+pub returns-clause-same : goal.returns-clause-same
+returns-clause-same c = λ pool whole. all_same pool c.args.hands.items c.in_ok-owners.owners.items c.absorb.new.owners.items c.in_ok-owners.thefts.items (c.in_ok-owners.ensures pool whole) whole c.absorb.ensures.owners c.in_ok-left.left.items c.absorb.ensures.pushed c.absorb.ensures.taken c.in_ok-left.ensures.same
+
+pub returns-clause-good : goal.returns-clause-good
+returns-clause-good c = λ pool whole. c.in_ok-left.ensures.good pool.leaves (leaves_now pool c.args.hands.items c.in_ok-owners.owners.items c.absorb.new.owners.items c.in_ok-owners.thefts.items (c.in_ok-owners.ensures pool whole) whole c.absorb.ensures.owners)
+
+pub returns-clause-pushed : goal.returns-clause-pushed
+returns-clause-pushed c =
+    let all = c.args.hands.items in
+    let counted : c.count_all-pushed.result.0 ≡ min (count_pushed all) top = c.count_all-pushed.ensures.pushed ∙ ap (λ (l : List HandView). min (count_pushed l) top) c.as_slice.ensures.value in
+    omega (arith, counted, c.saturating_add.ensures, flat_length (λ (v : HandView). v.pushed) all)
+
+pub returns-clause-taken : goal.returns-clause-taken
+returns-clause-taken c =
+    let all = c.args.hands.items in
+    let counted : c.count_all-pushed.result.1 ≡ min (count_taken all) top = c.count_all-pushed.ensures.taken ∙ ap (λ (l : List HandView). min (count_taken l) top) c.as_slice.ensures.value in
+    omega (arith, counted, flat_length (λ (v : HandView). v.taken) all)
