@@ -192,14 +192,11 @@ drained_more h all ws us w old new is drained was =
 
 -- The hands are counted.
 
-counted : (f : HandView → ℕ) (all : List HandView) (j : ℕ) (v : HandView) (n m r : ℕ) → j < length all → get_or all j v ≡ v → n ≡ min (sum_by f (take j all)) top → m ≡ min (f v) top → r ≡ min (n + m) top → r ≡ min (sum_by f (take (j + 1) all)) top
-counted f all j v n m r lt at was here is = let more : sum_by f (take (j + 1) all) ≡ sum_by f (take j all) + f v = ap (sum_by f) (take_more all j v lt at) ∙ sum_by_push f (take j all) v in mins (sum_by f (take j all)) (f v) n m r _ more was here is
+pub counted_more : (f : HandView → ℕ) (all : List HandView) (j : ℕ) (v : HandView) (n m r : ℕ) → j < length all → get_or all j v ≡ v → n ≡ min (sum_by f (take j all)) top → m ≡ min (f v) top → r ≡ min (n + m) top → r ≡ min (sum_by f (take (j + 1) all)) top
+counted_more f all j v n m r lt at was here is = let more : sum_by f (take (j + 1) all) ≡ sum_by f (take j all) + f v = ap (sum_by f) (take_more all j v lt at) ∙ sum_by_push f (take j all) v in mins (sum_by f (take j all)) (f v) n m r _ more was here is
   where
     mins : (a b n m r s : ℕ) → s ≡ a + b → n ≡ min a top → m ≡ min b top → r ≡ min (n + m) top → r ≡ min s top
     mins a b n m r s more was here is = omega (arith, more, was, here, is)
-
-pub counted_more : (f : HandView → ℕ) (all : List HandView) (j : ℕ) (v : HandView) (n m r : ℕ) → j < length all → get_or all j v ≡ v → n ≡ min (sum_by f (take j all)) top → m ≡ min (f v) top → r ≡ min (n + m) top → r ≡ min (sum_by f (take (j + 1) all)) top
-counted_more f all j v n m r lt at was here is = counted f all j v n m r lt at was here is
 
 pub flat_length : (f : HandView → List Task) (all : List HandView) → length (flat_map f all) ≡ sum_by (λ (v : HandView). length (f v)) all
 flat_length f [] = refl
