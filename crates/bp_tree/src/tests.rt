@@ -3,8 +3,6 @@ use bp_base::{Failed, MemSink, Tree};
 use std::alloc::{AllocError, Global};
 use std::test::Fail;
 
-fn moves<T: Send>(_: &T) {}
-
 // What reading answers: the line and the kind of a fault, or none.
 fn fault_of(alloc: Global, bytes: &[u8]) -> Result<Option<(u64, TreeKind)>, &'static str> {
     match read_tree(alloc, bytes) {
@@ -232,7 +230,6 @@ fn what_is_wrong_is_told(rt: HostRuntime) -> Result<(), Fail> {
     match read_tree(rt.alloc(), b"c p 1\nc p 2\n") {
         Ok(_) => Err("a tree".into()),
         Err(error) => {
-            moves(&error);
             let text = format!(in rt.alloc(); "{error}")?;
             assert_eq!(rt; text.as_str(), "line 2: RepeatedName");
             Ok(())
