@@ -94,7 +94,7 @@ row_push h each leaves [] all = refl
 row_push h each leaves (t ∷ ts) all = omega (arith, sum_by-cons (pushed_in h) t ts, (all 0 t (omega arith)).no_push h, row_push h each leaves ts (rest_all (IsTheft each leaves) t ts all))
 
 -- A hand at its place in the pool.
-module _ (pool : PoolView) (v : HandView) (k : ℕ) (own : Deque) (row : List Theft) (hp : v.pool ≡ pool) (num : v.number ≡ k + 1) (parts : IsParts v own row) where
+module _ (pool : PoolView) (v : HandView) (k : ℕ) (own : Deque) (held : List Theft) (hp : v.pool ≡ pool) (num : v.number ≡ k + 1) (parts : IsParts v own held) where
   own_in : IsOwn pool k own
   own_in =
       let e : k ≡ v.number - 1 = omega (arith, num) in
@@ -105,23 +105,23 @@ module _ (pool : PoolView) (v : HandView) (k : ℕ) (own : Deque) (row : List Th
         facts = subst (λ (q : PoolView). (worker_view own).facts ≡ facts_of q.leaves (total_of (length q.deques)) q.root (given_to v.number q.root)) hp parts.facts ∙ ap (λ (n : ℕ). facts_of pool.leaves (total_of (length pool.deques)) pool.root (given_to n pool.root)) num;
       }
 
-  deques_in : deques_of row ≡ pool.deques
+  deques_in : deques_of held ≡ pool.deques
   deques_in = parts.deques ∙ ap (λ (q : PoolView). q.deques) hp
 
-  row_len : length row ≡ length pool.deques
-  row_len = sym (length-map row deque_of) ∙ ap length deques_in
+  row_len : length held ≡ length pool.deques
+  row_len = sym (length-map held deque_of) ∙ ap length deques_in
 
-  places_in : map (λ (t : Theft). t.place) row ≡ range_with_len 0 (length row)
+  places_in : map (λ (t : Theft). t.place) held ≡ range_with_len 0 (length held)
   places_in = parts.places ∙ ap (λ (q : PoolView). range_with_len 0 (length q.deques)) hp ∙ ap (range_with_len 0) (sym row_len)
 
-  thefts_in : All (IsTheft (each_of (length pool.deques)) pool.leaves) row
-  thefts_in = subst (λ (q : PoolView). All (IsTheft (each_of (length q.deques)) q.leaves) row) hp parts.thefts_are
+  thefts_in : All (IsTheft (each_of (length pool.deques)) pool.leaves) held
+  thefts_in = subst (λ (q : PoolView). All (IsTheft (each_of (length q.deques)) q.leaves) held) hp parts.thefts_are
 
-  are_of : All (IsOf pool.deques) row
+  are_of : All (IsOf pool.deques) held
   are_of i d lt =
-      let t = get_or row i d in
-      let place : t.place ≡ i = omega (arith, placed row 0 places_in i d lt) in
-      (deque_of t, ap (slice_get pool.deques) place ∙ ap (λ (l : List DequeId). slice_get l i) (sym deques_in) ∙ found row i d lt, (thefts_in i d lt).of)
+      let t = get_or held i d in
+      let place : t.place ≡ i = omega (arith, placed held 0 places_in i d lt) in
+      (deque_of t, ap (slice_get pool.deques) place ∙ ap (λ (l : List DequeId). slice_get l i) (sym deques_in) ∙ found held i d lt, (thefts_in i d lt).of)
 
 zero_times : (e : ℕ) → 0 ≡ 0 * e
 zero_times e = omega arith
@@ -145,9 +145,9 @@ owners_more pool n m own us more here rest (suc k) d lt = let e : m + k ≡ n + 
 times : (n e : ℕ) → suc n * e ≡ n * e + e
 times n e = grind arith
 
-pub parted_more : (pool : PoolView) (left rest all : List HandView) (v : HandView) (us us' : List Deque) (ts ts' : List Theft) (own : Deque) (row : List Theft)
-    → left ≡ rest ++ v ∷ [] → us' ≡ own ∷ us → ts' ≡ ts ++ row → IsParts v own row → IsWhole pool all → IsParted pool left all us ts → IsParted pool rest all us' ts'
-parted_more pool left rest all v us us' ts ts' own row is more_us more_ts parts whole was =
+pub parted_more : (pool : PoolView) (left rest all : List HandView) (v : HandView) (us us' : List Deque) (ts ts' : List Theft) (own : Deque) (held : List Theft)
+    → left ≡ rest ++ v ∷ [] → us' ≡ own ∷ us → ts' ≡ ts ++ held → IsParts v own held → IsWhole pool all → IsParted pool left all us ts → IsParted pool rest all us' ts'
+parted_more pool left rest all v us us' ts ts' own held is more_us more_ts parts whole was =
     let sh = shorter all rest left v is was.prefix in
     let len : length left ≡ length rest + 1 = omega (arith, ap length is, length-append rest (v ∷ [])) in
     let lt : length rest < length all = omega (arith, len, was.count, whole.count) in
@@ -155,16 +155,16 @@ parted_more pool left rest all v us us' ts ts' own row is more_us more_ts parts 
     let hp : v.pool ≡ pool = ap (λ (u : HandView). u.pool) (sym (sh.1 v)) ∙ at.0 in
     let num : v.number ≡ length rest + 1 = ap (λ (u : HandView). u.number) (sym (sh.1 v)) ∙ at.1 in
     let each = each_of (length pool.deques) in
-    let thefts = thefts_in pool v (length rest) own row hp num parts in
-    subst (IsParted pool rest all us') (sym more_ts) (subst (λ (l : List Deque). IsParted pool rest all l (ts ++ row)) (sym more_us) (record {
+    let thefts = thefts_in pool v (length rest) own held hp num parts in
+    subst (IsParted pool rest all us') (sym more_ts) (subst (λ (l : List Deque). IsParted pool rest all l (ts ++ held)) (sym more_us) (record {
       count = omega (arith, was.count, len);
       prefix = sh.0;
-      owners_are = owners_more pool (length rest) (length left) own us len (own_in pool v (length rest) own row hp num parts) was.owners_are;
-      thefts_are = All-append (IsOf pool.deques) ts row was.thefts_are (are_of pool v (length rest) own row hp num parts);
-      rights = λ j jlt. omega (arith, sum_by-append (rights_at j) ts row, was.rights j jlt, row_rights each pool.leaves row 0 j (places_in pool v (length rest) own row hp num parts) thefts (omega arith) (omega (arith, jlt, row_len pool v (length rest) own row hp num parts)), times (length us) each);
-      no_push = λ h. omega (arith, sum_by-append (pushed_in h) ts row, was.no_push h, row_push h each pool.leaves row thefts);
+      owners_are = owners_more pool (length rest) (length left) own us len (own_in pool v (length rest) own held hp num parts) was.owners_are;
+      thefts_are = All-append (IsOf pool.deques) ts held was.thefts_are (are_of pool v (length rest) own held hp num parts);
+      rights = λ j jlt. omega (arith, sum_by-append (rights_at j) ts held, was.rights j jlt, row_rights each pool.leaves held 0 j (places_in pool v (length rest) own held hp num parts) thefts (omega arith) (omega (arith, jlt, row_len pool v (length rest) own held hp num parts)), times (length us) each);
+      no_push = λ h. omega (arith, sum_by-append (pushed_in h) ts held, was.no_push h, row_push h each pool.leaves held thefts);
       pushed = λ h. omega (arith, was.pushed h, sum_by-cons (λ (w : Deque). sum_by h (pushed_of (worker_view w))) own us, ap (hands_pushed h) is, sum_by_push (λ (u : HandView). sum_by h u.pushed) rest v, parts.pushed h);
-      taken = λ h. omega (arith, was.taken h, sum_by-cons (λ (w : Deque). sum_by h (taken_of (worker_view w))) own us, sum_by-append (taken_in h) ts row, ap (hands_taken h) is, sum_by_push (λ (u : HandView). sum_by h u.taken) rest v, parts.taken h);
+      taken = λ h. omega (arith, was.taken h, sum_by-cons (λ (w : Deque). sum_by h (taken_of (worker_view w))) own us, sum_by-append (taken_in h) ts held, ap (hands_taken h) is, sum_by_push (λ (u : HandView). sum_by h u.taken) rest v, parts.taken h);
     }))
 
 -- one more deque is emptied
