@@ -1,0 +1,12 @@
+mod Ahead
+mod Assembled
+mod Corners
+mod Directed
+mod Exact
+mod Followed
+mod Listing
+mod Plane
+mod Scaled
+mod Stretches
+mod Tables
+mod Walking
