@@ -1,16 +1,16 @@
 -- Closed walks over all runs are the contours.
-use Rattle.std.proofs.Common.{◌≡◌, ◌≢◌, ◌⊎◌, ℕ, zero, suc, ◌+◌, ◌-◌, ◌<◌, ◌≤◌, ◌↔◌, ◌==◌, Bool, true, false, List, [], ◌∷◌, length, get_or, map, eqb, if◌then◌else◌, refl, sym, ◌∙◌, ap, subst, arith, inl, inr}
+use Rattle.std.proofs.Common.{◌≡◌, ◌≢◌, ◌⊎◌, ℕ, zero, suc, ◌+◌, ◌-◌, ◌<◌, ◌≤◌, ◌↔◌, ◌==◌, Bool, List, [], ◌∷◌, length, get_or, map, if◌then◌else◌, refl, sym, ◌∙◌, ap, subst, arith, inl, inr}
 use Rattle.std.proofs.lemmas.Bool.{cases_eq, cases_order, eq-eqb, ne_eqb}
 use Rattle.std.proofs.lemmas.List.{get_or_default, length-map}
 use Rattle.bp_base.specs.declared.point.Point.{Point}
 use Rattle.bp_base.specs.Point.{origin}
 use Rattle.bp_contour.specs.declared.runs.Run.{Run}
 use Rattle.bp_contour.specs.declared.way.Way.{Way}
-use Rattle.bp_regions.specs.Contours.{AreContours, ComesBefore, Goes, GoesOnce, IsPlace, loop_at, next_place, turn_after, turn_at}
+use Rattle.bp_regions.specs.Contours.{AreContours, ComesBefore, GoesOnce, IsPlace, loop_at, next_place, turn_after, turn_at}
 use Rattle.bp_regions.specs.Runs.{IsAfter, IsRun}
-use Rattle.bp_contour.specs.Listed.{AreRuns, Follows, IsFound, StandsBefore, run_at}
+use Rattle.bp_contour.specs.Listed.{AreRuns, Follows, StandsBefore, run_at}
 use Rattle.bp_contour.specs.Ways.{RunBy, number_of}
-use Rattle.bp_contour.specs.Walks.{AreRound, AreWalks, Closes, mark_at, walk_at}
+use Rattle.bp_contour.specs.Walks.{AreWalks, Closes, walk_at}
 use Rattle.bp_contour.proofs.Corners.{same_end}
 use Rattle.bp_contour.proofs.Directed.{one_ahead, run_of, same_way, way_of}
 use Rattle.bp_contour.proofs.Followed.{one_place}

@@ -1,6 +1,5 @@
 -- The four cells round a grid point tell which runs begin and end there.
-use Rattle.std.proofs.Common.{◌≡◌, ◌≢◌, ◌⊎◌, ℕ, zero, suc, ◌+◌, ◌-◌, ◌<◌, ◌≤◌, refl, sym, ◌∙◌, ap, subst, arith, inl, inr}
-use Rattle.std.proofs.lemmas.Bool.{cases_eq}
+use Rattle.std.proofs.Common.{◌≡◌, ◌≢◌, ◌⊎◌, ℕ, zero, suc, ◌-◌, ◌<◌, refl, sym, ◌∙◌, ap, subst, arith, inl, inr}
 use Rattle.bp_base.specs.declared.point.Point.{Point}
 use Rattle.bp_contour.specs.declared.way.Way.{Way}
 use Rattle.bp_contour.specs.declared.way.Way.TheVariants.{East, North, West, South}
@@ -184,7 +183,7 @@ module _ (In : ℕ → ℕ → Type 0) where
     ]
 
     module _ (width height : ℕ) (bound : (x y : ℕ) → In x y → (x < width) × (y < height)) where
-      known_both : (A B : Type 0) → (A ⊎ (A → ⊥)) → (B ⊎ (B → ⊥)) → (A × (B → ⊥)) ⊎ (A × (B → ⊥) → ⊥)
+      pub known_both : (A B : Type 0) → (A ⊎ (A → ⊥)) → (B ⊎ (B → ⊥)) → (A × (B → ⊥)) ⊎ (A × (B → ⊥) → ⊥)
       known_both A B (inl a) (inl b) = inr (λ h. h.1 b)
       known_both A B (inl a) (inr b) = inl (a, b)
       known_both A B (inr a) b = inr (λ h. a h.0)

@@ -1,12 +1,12 @@
 -- Runs of any direction, and what a run's direction tells.
-use Rattle.std.proofs.Common.{◌≡◌, ◌≢◌, ◌⊎◌, ℕ, ◌+◌, ◌-◌, ◌<◌, ◌≤◌, refl, sym, ◌∙◌, ap, subst, arith, inl, inr}
+use Rattle.std.proofs.Common.{◌≡◌, ◌⊎◌, ℕ, sym, subst, arith, inl, inr}
 use Rattle.bp_base.specs.declared.point.Point.{Point}
 use Rattle.bp_contour.specs.declared.way.Way.{Way}
 use Rattle.bp_contour.specs.declared.way.Way.TheVariants.{East, North, West, South}
 use Rattle.bp_regions.specs.Contours.{ComesBefore}
 use Rattle.bp_regions.specs.Runs.{IsRun, TurnsLeft}
 use Rattle.bp_contour.specs.Ways.{RunBy, left_of}
-use Rattle.bp_contour.proofs.Corners.{opposite, run_begins, same_end, two_leave}
+use Rattle.bp_contour.proofs.Corners.{opposite, run_begins, two_leave}
 
 module _ (In : ℕ → ℕ → Type 0) where
   pub run_of : (v : Way) (p q : Point) → RunBy In v p q → IsRun In p q

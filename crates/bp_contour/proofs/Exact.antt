@@ -1,5 +1,5 @@
 -- The loops over a region's table are the region's contours.
-use Rattle.std.proofs.Common.{◌≡◌, ℕ, ◌+◌, ◌-◌, ◌<◌, ◌≤◌, ◌↔◌, List, length, get_or, refl, sym, ◌∙◌, ap, subst, arith}
+use Rattle.std.proofs.Common.{◌≡◌, ℕ, ◌-◌, ◌↔◌, List, length, get_or, sym, ◌∙◌, ap, subst, arith}
 use Rattle.bp_base.specs.declared.point.Axis.{Axis}
 use Rattle.bp_base.specs.declared.point.Axis.TheVariants.{X, Y}
 use Rattle.bp_base.specs.declared.point.Point.{Point}

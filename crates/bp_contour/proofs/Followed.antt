@@ -1,11 +1,11 @@
 -- No two runs have the same run after them.
-use Rattle.std.proofs.Common.{◌≡◌, ◌≢◌, ◌⊎◌, ℕ, ◌<◌, List, length, refl, sym, ◌∙◌, ap, subst, arith, inl, inr}
+use Rattle.std.proofs.Common.{◌≡◌, ℕ, ◌<◌, List, length, refl, sym, ◌∙◌, ap, subst, inl, inr}
 use Rattle.std.proofs.lemmas.Bool.{cases_order}
 use Rattle.bp_base.specs.declared.point.Point.{Point}
 use Rattle.bp_contour.specs.declared.runs.Run.{Run}
 use Rattle.bp_contour.specs.declared.way.Way.{Way}
 use Rattle.bp_contour.specs.declared.way.Way.TheVariants.{East, North, West, South}
-use Rattle.bp_contour.specs.Listed.{AreRising, AreRuns, Follows, IsFound, StandsBefore, Turns, run_at}
+use Rattle.bp_contour.specs.Listed.{AreRising, AreRuns, Follows, StandsBefore, Turns, run_at}
 use Rattle.bp_contour.specs.Ways.{Arrives, Begins, RunBy, left_of, number_of, right_of}
 use Rattle.bp_contour.proofs.Corners.{both_begin, known_way, opposite, run_arrives, same_begin, two_arrive}
 use Rattle.bp_contour.proofs.Listing.{never_both}

@@ -1,18 +1,18 @@
 -- Runs over a table and runs over the unit cells, in all four directions.
-use Rattle.std.proofs.Common.{◌≡◌, ◌≢◌, ◌⊎◌, ℕ, ◌+◌, ◌-◌, ◌<◌, ◌≤◌, ◌↔◌, List, length, refl, sym, ◌∙◌, ap, subst, arith, inl, inr}
+use Rattle.std.proofs.Common.{◌≡◌, ◌≢◌, ℕ, ◌-◌, ◌<◌, ◌≤◌, ◌↔◌, List, refl, sym, ◌∙◌, ap, subst, arith, inl, inr}
 use Rattle.bp_base.specs.declared.point.Point.{Point}
 use Rattle.bp_contour.specs.declared.runs.Run.{Run}
 use Rattle.bp_contour.specs.declared.way.Way.{Way}
 use Rattle.bp_contour.specs.declared.way.Way.TheVariants.{East, North, West, South}
 use Rattle.bp_regions.specs.Contours.{ComesBefore}
-use Rattle.bp_regions.specs.Runs.{GoesEast, GoesNorth, GoesSouth, GoesWest, IsAfter, IsRun, IsStretch, TurnsLeft}
+use Rattle.bp_regions.specs.Runs.{GoesEast, GoesNorth, GoesSouth, GoesWest, IsAfter, IsRun, IsStretch}
 use Rattle.bp_contour.specs.Listed.{AreRuns, Follows, Turns, run_at}
 use Rattle.bp_contour.specs.Ways.{Arrives, Begins, Leaves, RunBy, left_of, right_of}
 use Rattle.bp_contour.proofs.Corners.{opposite, run_arrives, run_begins, same_end, same_point, two_leave}
 use Rattle.bp_contour.proofs.Directed.{run_of, turns_left, way_of}
 use Rattle.bp_contour.proofs.Scaled.{AreSteps, Lies, east_back, east_cut, east_scaled, same_step, west_back, west_cut, west_scaled}
 
-opposite_of_right : (v : Way) → opposite (right_of v) ≡ left_of v
+pub opposite_of_right : (v : Way) → opposite (right_of v) ≡ left_of v
 opposite_of_right East = refl
 opposite_of_right North = refl
 opposite_of_right West = refl

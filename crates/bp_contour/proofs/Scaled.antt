@@ -1,12 +1,7 @@
 -- Runs over a table of cells between cuts are runs over the unit cells, and all of them.
-use Rattle.std.proofs.Common.{◌≡◌, ◌≢◌, ◌⊎◌, ℕ, zero, suc, ◌+◌, ◌-◌, ◌<◌, ◌≤◌, ◌↔◌, refl, sym, ◌∙◌, ap, subst, arith, inl, inr}
+use Rattle.std.proofs.Common.{◌≡◌, ℕ, zero, suc, ◌+◌, ◌-◌, ◌<◌, ◌≤◌, ◌↔◌, sym, ap, subst, arith, inl, inr}
 use Rattle.std.proofs.lemmas.Bool.{cases_eq, cases_lt, cases_order}
-use Rattle.bp_base.specs.declared.point.Point.{Point}
-use Rattle.bp_contour.specs.declared.way.Way.{Way}
-use Rattle.bp_contour.specs.declared.way.Way.TheVariants.{East, North, West, South}
-use Rattle.bp_regions.specs.Runs.{Below, Beside, GoesEast, GoesNorth, GoesSouth, GoesWest, IsStretch}
-use Rattle.bp_contour.specs.Ways.{RunBy}
-use Rattle.bp_contour.proofs.Corners.{same_point}
+use Rattle.bp_regions.specs.Runs.{Below, GoesEast, GoesWest, IsStretch}
 
 -- Cuts 0 to n rise from 0 to the end.
 pub record AreSteps (cut : ℕ → ℕ) (n end : ℕ) : Type 0 where

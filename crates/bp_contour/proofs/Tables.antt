@@ -1,13 +1,12 @@
 -- The bits of a table, and how it is filled.
-use Rattle.std.proofs.Common.{◌≡◌, ℕ, zero, suc, ◌+◌, ◌-◌, ◌*◌, ◌<◌, ◌≤◌, ◌↔◌, ◌&&◌, Bool, true, false, List, [], ◌∷◌, ◌++◌, length, get_or, if◌then◌else◌, IsTrue, refl, sym, ◌∙◌, ap, subst, arith, ltb, inl, inr, length-append}
-use Rattle.std.proofs.lemmas.Bool.{and_from, and_left, and_parts, and_right, cases_Bool, cases_eq, false≢true, le-ltb, lt-ltb, ltb-true, ltb-false}
-use Rattle.std.proofs.lemmas.List.{get_or_append_left, get_or_past, get_or_push, get_or_read}
+use Rattle.std.proofs.Common.{◌≡◌, ℕ, ◌+◌, ◌-◌, ◌*◌, ◌<◌, ◌≤◌, ◌↔◌, Bool, false, List, [], ◌∷◌, ◌++◌, length, get_or, IsTrue, refl, sym, ◌∙◌, ap, subst, arith, ltb, inl, inr, length-append}
+use Rattle.std.proofs.lemmas.Bool.{cases_Bool, cases_eq, false≢true, lt-ltb, ltb-true, ltb-false}
+use Rattle.std.proofs.lemmas.List.{get_or_append_left, get_or_push, get_or_read}
 use Rattle.std.proofs.lemmas.List.Kept.{AllPairs-from_increasing}
 use Rattle.bp_base.specs.declared.point.Axis.{Axis}
-use Rattle.bp_base.specs.declared.point.Axis.TheVariants.{X, Y}
-use Rattle.bp_regions.specs.Cells.{IsCell, Reach}
+use Rattle.bp_regions.specs.Cells.{Reach}
 use Rattle.bp_regions.specs.Regions.{RegionsValue}
-use Rattle.bp_contour.specs.Table.{AddsRow, AreCutsOf, AreRows, Holds, IsTable, IsWhole, TableValue, bit}
+use Rattle.bp_contour.specs.Table.{AddsRow, AreCutsOf, AreRows, Holds, IsTable, TableValue, bit}
 
 -- Single bits.
 

@@ -1,7 +1,6 @@
 -- A table of cells between cuts, and which cells of a region it holds.
-use Rattle.std.specs.Prelude.{◌≡◌, ℕ, ◌+◌, ◌-◌, ◌*◌, ◌^◌, ◌<◌, ◌≤◌, ◌↔◌, Bool, false, ◌&&◌, nat_lt, List, length, slice_index, slice_index_or, IsTrue, if◌then◌else◌}
+use Rattle.std.specs.Prelude.{◌≡◌, ℕ, ◌+◌, ◌-◌, ◌*◌, ◌^◌, ◌<◌, ◌↔◌, Bool, false, ◌&&◌, nat_lt, List, length, slice_index, slice_index_or, IsTrue, if◌then◌else◌}
 use Rattle.bp_base.specs.declared.point.Axis.{Axis}
-use Rattle.bp_base.specs.declared.point.Axis.TheVariants.{X, Y}
 use Rattle.bp_base.specs.declared.point.Point.{Point}
 use Rattle.bp_regions.specs.Cells.{Reach}
 use Rattle.bp_regions.specs.Cuts.{AreCuts}

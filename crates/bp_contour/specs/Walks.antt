@@ -3,7 +3,7 @@ use Rattle.bp_base.specs.declared.point.Point.{Point}
 use Rattle.bp_contour.specs.declared.runs.Run.{Run}
 use Rattle.bp_contour.specs.Listed.{run_at}
 use Rattle.bp_contour.specs.Table.{grid_point}
-use Rattle.std.specs.Prelude.{◌≡◌, ◌≢◌, ◌⊎◌, ℕ, ◌+◌, ◌-◌, ◌<◌, ◌≤◌, ◌==◌, Bool, true, false, List, [], length, map, slice_index, slice_index_or, if◌then◌else◌}
+use Rattle.std.specs.Prelude.{◌≡◌, ◌≢◌, ◌⊎◌, ℕ, ◌+◌, ◌-◌, ◌<◌, ◌≤◌, Bool, true, false, List, [], length, map, slice_index, slice_index_or}
 
 abbrev pub mark_at : List Bool → ℕ → Bool
 mark_at marks k = slice_index_or marks k false

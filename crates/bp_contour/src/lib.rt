@@ -2,11 +2,13 @@
 #![tactic(auto)]
 
 mod cells;
+mod laws;
 mod loops;
 mod runs;
 mod walk;
 mod way;
 
+pub use laws::{law_of_after, one_contours};
 pub use loops::{Loop, contours};
 
 #[cfg(test)]

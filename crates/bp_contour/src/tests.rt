@@ -79,6 +79,8 @@ fn placed(alloc: Global, tree: &Tree, side: u64, points: &[Point]) -> Result<Opt
     if points.len() as u64 != metric.leaves() || is_valid(&metric, side, points).is_err() {
         return Ok(None);
     }
+    law_of_after(&metric);
+    one_contours(&metric);
     let points = Sequence::from_vec(Vec::from_slice(alloc, points)?);
     let placement = Placement { side, points };
     Ok(Some(Regions::of(alloc, tree, &metric, &placement)?))

@@ -1,10 +1,7 @@
 use Rattle.std.proofs.Common.{map, sym, subst}
 use Rattle.std.proofs.lemmas.Result.{IfOk-weaker}
-use Rattle.bp_base.specs.declared.point.Point.{Point}
-use Rattle.bp_base.specs.declared.point.Axis.{Axis}
 use Rattle.bp_base.specs.declared.point.Axis.TheVariants.{X, Y}
 use Rattle.bp_contour.specs.declared.loops.Loop.{Loop}
-use Rattle.bp_contour.specs.declared.runs.Run.{Run}
 use Rattle.bp_contour.specs.Listed.{AreRuns}
 use Rattle.bp_contour.specs.Table.{AreCutsOf, Holds}
 use Rattle.bp_contour.proofs.Exact.{contours_exact, on_grid}

@@ -1,6 +1,6 @@
 use Rattle.std.proofs.Common.{◌+◌, ◌-◌, ◌/◌, ◌∙◌, ℕ, arith, sym}
 use Rattle.std.proofs.lemmas.Bool.{false≢true}
-use Rattle.bp_contour.proofs.Listing.{between_all, found_at, lower_half, upper_half}
+use Rattle.bp_contour.proofs.Listing.{lower_half, upper_half}
 use Rattle.bp_contour.proofs.runs.find.Goals as goal
 
 pub loop-high-preserved-then-is_before : goal.loop-high-preserved-then-is_before

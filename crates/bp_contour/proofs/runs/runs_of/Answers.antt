@@ -1,6 +1,6 @@
 use Rattle.std.proofs.Common.{arith}
 use Rattle.bp_contour.specs.Table.{Holds}
-use Rattle.bp_contour.proofs.Listing.{run_within, runs_done, runs_none}
+use Rattle.bp_contour.proofs.Listing.{run_within, runs_done}
 use Rattle.bp_contour.proofs.runs.runs_of.Goals as goal
 
 pub returns : goal.returns

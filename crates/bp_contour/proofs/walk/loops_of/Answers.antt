@@ -1,4 +1,4 @@
-use Rattle.std.proofs.Common.{◌≡◌, ◌+◌, ◌++◌, ◌∷◌, ◌∙◌, ℕ, List, [], Bool, Global, Vec, false, true, length, map, refl, sym, ap, subst, arith}
+use Rattle.std.proofs.Common.{◌≡◌, ◌+◌, ◌++◌, ◌∷◌, ◌∙◌, ℕ, List, [], Bool, Global, Vec, false, true, length, map, sym, ap, subst, arith}
 use Rattle.std.proofs.lemmas.List.{get_or_read, map-append, with_items_is}
 use Rattle.bp_base.specs.declared.point.Point.{Point}
 use Rattle.bp_contour.specs.declared.loops.Loop.{Loop}

@@ -1,4 +1,4 @@
-use Rattle.std.proofs.Common.{◌≡◌, ◌<◌, ◌++◌, ◌∷◌, ◌∙◌, ℕ, List, [], false, refl, ap, arith}
+use Rattle.std.proofs.Common.{◌≡◌, ◌++◌, ◌∷◌, ◌∙◌, ℕ, List, [], false, refl, ap, arith}
 use Rattle.bp_base.specs.declared.point.Point.{Point}
 use Rattle.bp_contour.specs.Listed.{Follows}
 use Rattle.bp_contour.specs.Table.{Holds}
