@@ -13,3 +13,4 @@ mod Stretches
 mod Tables
 mod Unique
 mod Walking
+mod Worked

@@ -38,11 +38,11 @@ CanStep West p = 1 ≤ p.x
 CanStep South p = 1 ≤ p.y
 
 -- a unit segment of the boundary goes this way between (x,y) and (x+1,y), for North and South between (x,y) and (x,y+1)
-abbrev pub Goes : (ℕ → ℕ → Type 0) → Way → ℕ → ℕ → Type 0
-Goes In East x y = GoesEast In x y
-Goes In North x y = GoesNorth In x y
-Goes In West x y = GoesWest In x y
-Goes In South x y = GoesSouth In x y
+abbrev pub GoesBy : (ℕ → ℕ → Type 0) → Way → ℕ → ℕ → Type 0
+GoesBy In East x y = GoesEast In x y
+GoesBy In North x y = GoesNorth In x y
+GoesBy In West x y = GoesWest In x y
+GoesBy In South x y = GoesSouth In x y
 
 -- a unit segment that goes this way begins at the point
 abbrev pub Leaves : (ℕ → ℕ → Type 0) → Way → Point → Type 0

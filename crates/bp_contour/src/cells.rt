@@ -4,7 +4,7 @@ ghost use Rattle.bp_base.specs.declared.point.Axis.TheVariants.{X, Y};
 ghost use Rattle.bp_base.specs.Tree.{IsEdge};
 ghost use Rattle.bp_regions.specs.Runs.{Below, Beside};
 ghost use Rattle.bp_contour.specs.Table.{AddsRow, AreCutsOf, Holds, IsTable};
-ghost use Rattle.bp_contour.specs.Ways.{Arrives, Begins, CanStep, Goes, Leaves, RunBy, step_on};
+ghost use Rattle.bp_contour.specs.Ways.{Arrives, Begins, CanStep, GoesBy, Leaves, RunBy, step_on};
 
 use crate::way::Way;
 use bp_base::{NoMemory, Point};
@@ -96,7 +96,7 @@ impl Cells {
     // Whether a unit segment of the boundary goes this way between (x,y) and the next grid point to the right, for North and South
     // above it.
     fn goes(&self, way: Way, x: u64, y: u64) -> bool
-        ensures { IsTrue result ↔ Goes (Holds self.now) way x y }
+        ensures { IsTrue result ↔ GoesBy (Holds self.now) way x y }
     {
         match way {
             Way::East => self.holds(x, y) && !self.below(x, y),

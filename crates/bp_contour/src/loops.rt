@@ -19,7 +19,8 @@ pub struct Loop {
 
 /// The contours of Reach of the edge: loops that go once along each unit segment between a cell that the edge reaches and one that
 /// it doesn't, or the outside of the sheet, with the region on the left. Where two loops touch, each turns left. A loop begins at its
-/// least point by (y, x), and loops rise by it.
+/// least point by (y, x), and loops rise by it. The rule is `AreContours` in bp_regions' specs/Contours.antt; by `one_contours` it
+/// leaves no choice. NoMemory where memory runs out.
 pub fn contours(alloc: Global, regions: &Regions, edge: u64) -> Result<Vec<Loop>, NoMemory>
     requires edge { IsEdge regions.now.tree edge }
     ensures { IfOk result (λ v. AreContours (Reach regions.now.tree regions.now.side regions.now.points edge) (map (λ (l : AnyLoop). l.points) v.items)) }

@@ -1,5 +1,5 @@
 // All runs of a table, in the order of their first points by (y, x).
-ghost use Rattle.std.specs.Prelude.{◌≡◌, ◌+◌, ◌<◌, ◌≤◌, ◌↔◌, ℕ, length, IsTrue, IfOk, OnOk};
+ghost use Rattle.std.specs.Prelude.{◌≡◌, ◌+◌, ◌<◌, ◌↔◌, ℕ, length, IsTrue, IfOk, OnOk};
 ghost use Rattle.bp_contour.specs.Listed.{AreRuns, AreRising, AreRunsUpTo, Follows, IsFound, StandsBefore, Turns};
 ghost use Rattle.bp_contour.specs.Table.{Holds};
 ghost use Rattle.bp_contour.specs.Ways.{Begins, RunBy, number_of};

@@ -1,6 +1,5 @@
 // Walks from run to run.
-ghost use Rattle.std.specs.Prelude.{◌≡◌, ◌<◌, ℕ, length, map, slice_index, false, true, IfOk};
-ghost use Rattle.bp_base.specs.declared.point.Point.{Point as AnyPoint};
+ghost use Rattle.std.specs.Prelude.{◌≡◌, ◌<◌, false, length, map, IfOk};
 ghost use Rattle.bp_contour.specs.declared.loops.Loop.{Loop as AnyLoop};
 ghost use Rattle.bp_contour.specs.Listed.{AreRuns, Follows};
 ghost use Rattle.bp_contour.specs.Table.{Holds, grid_point};

@@ -1,5 +1,5 @@
 // Directions of a walk along a boundary.
-ghost use Rattle.std.specs.Prelude.{◌≡◌, ◌<◌};
+ghost use Rattle.std.specs.Prelude.{◌≡◌};
 ghost use Rattle.bp_contour.specs.Ways.{left_of, right_of, number_of};
 
 #[derive(Clone, Copy, Debug, PartialEq, Eq)]
