@@ -1,0 +1,16 @@
+mod After
+mod Ahead
+mod Assembled
+mod Corners
+mod Directed
+mod Exact
+mod Followed
+mod Known
+mod Listing
+mod Plane
+mod Scaled
+mod Stretches
+mod Tables
+mod Unique
+mod Walking
+mod Worked

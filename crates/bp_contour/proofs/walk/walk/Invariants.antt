@@ -1,0 +1,12 @@
+use Rattle.bp_contour.specs.Listed.{Follows}
+use Rattle.bp_contour.specs.Table.{Holds}
+use Rattle.bp_contour.specs.Walks.{start_of}
+use Rattle.bp_contour.proofs.Walking.{IsUnderWay, free_count}
+use Rattle.bp_contour.proofs.walk.walk.Given as goal
+
+abbrev pub invariant-loop-place : goal.invariant-loop-place
+invariant-loop-place l =
+    IsUnderWay (Follows (Holds l.cells) l.runs) (start_of l.columns l.rows l.runs) l.start l.place l.fn.taken l.taken l.points
+
+abbrev pub decreases-loop-place : goal.decreases-loop-place
+decreases-loop-place l = free_count l.taken

@@ -1,0 +1,4 @@
+pub mod Ways
+pub mod Table
+pub mod Listed
+pub mod Walks
