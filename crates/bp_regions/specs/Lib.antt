@@ -2,3 +2,4 @@ pub mod Cells
 pub mod Cuts
 pub mod Regions
 pub mod Balls
+pub mod Hinges
