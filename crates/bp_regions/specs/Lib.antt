@@ -4,3 +4,4 @@ pub mod Regions
 pub mod Balls
 pub mod Runs
 pub mod Contours
+pub mod Hinges

@@ -1,0 +1,12 @@
+mod Lines
+mod Across
+mod Segment
+mod Crossings
+mod Listing
+mod CornerLists
+mod Walks
+mod Along
+mod Joins
+mod Numbered
+mod Whole
+mod Commas
