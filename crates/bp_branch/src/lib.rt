@@ -2,9 +2,11 @@
 #![tactic(auto)]
 
 mod judging;
+mod laws;
 mod pairs;
 #[cfg(test)]
 mod tests;
 
 pub use judging::{examine, extended, judge};
+pub use laws::{law_of_branches, law_of_children, law_of_solved};
 pub use pairs::next_pair;
