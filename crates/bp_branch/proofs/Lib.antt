@@ -1,1 +1,4 @@
 mod Best
+mod Branches
+mod Picked
+mod Solved

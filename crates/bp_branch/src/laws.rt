@@ -1,5 +1,5 @@
 // Laws of branches: what holds of paths whose pairs were each picked by next.
-ghost use Rattle.std.specs.Prelude.{◌≡◌, ◌<◌, ◌≤◌, ℕ, List, None, Contains, length};
+ghost use Rattle.std.specs.Prelude.{◌≡◌, ◌<◌, ◌≤◌, ◌-◌, ◌*◌, ◌/◌, ℕ, List, None, Contains, length};
 ghost use Rattle.bp_base.specs.declared.path.Choice.{Choice};
 ghost use Rattle.bp_base.specs.declared.path.Pair.{Pair};
 ghost use Rattle.bp_base.specs.declared.path.Step.{Step};
@@ -26,10 +26,10 @@ pub fn law_of_branches(metric: &Metric)
     let _leaves = metric.leaves();
 }
 
-/// The next pair of a path isn't on it, and the path with one more step for it, and an allowed choice, stands in the stated tree
+/// The next pair of a branch isn't on it, and the path with one more step for it, and an allowed choice, stands in the stated tree
 /// where the path does and is an inner node there.
 pub fn law_of_children(metric: &Metric)
-    ensures new { (path : List Step) (p : Pair) → IsNextPair metric.now.tree path p → CanSplit metric.now.tree path p }
+    ensures new { (path : List Step) (p : Pair) → IsBranch metric.now.tree path → IsNextPair metric.now.tree path p → CanSplit metric.now.tree path p }
     ensures stated { (u : ℕ) (path : List Step) (p : Pair) (c : Choice) → IsStatedFor metric.now.tree metric.now.sheet u path → IsInner metric.now.tree metric.now.sheet u path p → Contains (allowed metric.now.tree metric.now.sheet p) c → IsStatedFor metric.now.tree metric.now.sheet u (extended path p c) }
 {
     let _leaves = metric.leaves();
