@@ -1,8 +1,8 @@
 -- What holds of a path without a cycle: it places no leaf before itself, its low coordinates meet its steps, and its next pair isn't on it.
-use Rattle.std.proofs.Common.{◌≡◌, ◌≢◌, ℕ, zero, suc, ◌+◌, ◌-◌, ◌*◌, ◌<◌, ◌≤◌, ◌⊎◌, max, List, [], ◌∷◌, ◌++◌, length, get_or, take, Some, refl, sym, ◌∙◌, ap, subst, arith, inl, inr}
+use Rattle.std.proofs.Common.{◌≡◌, ◌≢◌, ℕ, ◌+◌, ◌-◌, ◌<◌, ◌≤◌, ◌⊎◌, max, List, [], ◌∷◌, ◌++◌, length, get_or, Some, refl, sym, ◌∙◌, ap, subst, arith, inl, inr}
 use Rattle.std.specs.List.{All, AllPairs, slice_get}
 use Rattle.std.specs.Int.{abs_diff}
-use Rattle.std.proofs.lemmas.List.{append-nil, length-append, get_or_append_left, get_or-append-add}
+use Rattle.std.proofs.lemmas.List.{length-append, get_or_append_left, get_or-append-add}
 use Rattle.std.proofs.lemmas.List.Elements.{All-cons}
 use Rattle.std.proofs.lemmas.List.Kept.{AllPairs-cons}
 use Rattle.std.proofs.lemmas.Bool.{cases_eq}
@@ -19,9 +19,9 @@ use Rattle.bp_metric.specs.Distance.{leaf_dist}
 use Rattle.bp_metric.specs.Chains.{PlacesBy, Places, ArePlaced, IsChain, IsCycle, HasCycle, HasCycleOn, HasPairsOf, chain_weight, last_of}
 use Rattle.bp_metric.specs.Coordinates.{IsLow}
 use Rattle.bp_metric.specs.Next.{IsNear, IsNextPair}
-use Rattle.bp_metric.specs.Refutation.{IsOnPath, CanSplit}
-use Rattle.bp_metric.proofs.Chains.{places_left, places_right, places_cases, places_one, places_at}
-use Rattle.bp_metric.proofs.Cycles.{last_join, placed_join, placed_front, placed_back, placed_between, cycle_turned}
+use Rattle.bp_metric.specs.Refutation.{CanSplit}
+use Rattle.bp_metric.proofs.Chains.{places_cases, places_one, places_at}
+use Rattle.bp_metric.proofs.Cycles.{last_join, placed_join, placed_front, placed_between, cycle_turned}
 use Rattle.bp_metric.proofs.Distances.{dist_comm, dist_same, triangle}
 use Rattle.bp_metric.proofs.Lows.{placed_leaves, last_more}
 

@@ -1,16 +1,16 @@
 -- Paths whose pairs were each picked by next are branches, and those of the stated tree are such paths.
-use Rattle.std.proofs.Common.{◌≡◌, ◌≢◌, ℕ, zero, suc, ◌+◌, ◌-◌, ◌*◌, ◌/◌, ◌<◌, ◌≤◌, ◌⊎◌, List, [], ◌∷◌, ◌++◌, length, map, get_or, take, Some, refl, sym, ◌∙◌, ap, subst, arith, inl, inr}
-use Rattle.std.specs.List.{All, AllPairs, Contains, slice_get}
+use Rattle.std.proofs.Common.{◌≡◌, ◌≢◌, ℕ, zero, suc, ◌+◌, ◌<◌, ◌≤◌, List, [], ◌∷◌, ◌++◌, length, map, get_or, take, Some, sym, ◌∙◌, ap, subst, arith, inl, inr}
+use Rattle.std.specs.List.{All, AllPairs, Contains}
 use Rattle.std.proofs.lemmas.List.{length-append, length-map, get_or_append_left, take_all, take-append-le, get_or_at}
 use Rattle.std.proofs.lemmas.List.Quantifiers.{all_pairs_push}
 use Rattle.std.proofs.lemmas.List.Elements.{All-map, All-push}
 use Rattle.std.proofs.lemmas.List.{get_or-map}
-use Rattle.std.proofs.lemmas.Bool.{cases_lt, cases_eq, eqb-true}
+use Rattle.std.proofs.lemmas.Bool.{cases_lt, eqb-true}
 use Rattle.std.proofs.lemmas.Bool.Decides.{Decides-eqb}
 use Rattle.std.proofs.lemmas.Map.Views.{Contains-from_any}
 use Rattle.std.proofs.lemmas.Map.Steps.{length-le_from_distinct_below}
 use Rattle.std.proofs.lemmas.Map.Made.{IsDistinct-from_AllPairs}
-use Rattle.std.proofs.lemmas.Option.{slice_get-get_or, get_or_from_slice_get, slice_get_within}
+use Rattle.std.proofs.lemmas.Option.{slice_get-get_or, get_or_from_slice_get}
 use Rattle.bp_base.specs.declared.path.Choice.{Choice}
 use Rattle.bp_base.specs.declared.path.Choice.TheVariants.{Left}
 use Rattle.bp_base.specs.declared.path.Pair.{Pair}
@@ -18,15 +18,15 @@ use Rattle.bp_base.specs.declared.path.Step.{Step}
 use Rattle.bp_base.specs.declared.point.Sheet.{Sheet}
 use Rattle.bp_base.specs.Path.{IsPairOf}
 use Rattle.bp_base.specs.Tree.{TreeValue, IsTree, leaf_count}
-use Rattle.bp_metric.specs.Chains.{HasCycle, HasCycleOn, HasPairsOf, Places}
+use Rattle.bp_metric.specs.Chains.{HasCycle}
 use Rattle.bp_metric.specs.Choices.{allowed}
 use Rattle.bp_metric.specs.Next.{IsNextPair}
-use Rattle.bp_metric.specs.Refutation.{CanSplit, IsOnPath, extended}
-use Rattle.bp_metric.specs.Stated.{BranchesAt, IsInner, IsStatedFor}
+use Rattle.bp_metric.specs.Refutation.{extended}
+use Rattle.bp_metric.specs.Stated.{IsInner, IsStatedFor}
 use Rattle.bp_metric.proofs.Chains.{take_step}
 use Rattle.bp_pairs.specs.Numbers.{pair_number, pair_count}
 use Rattle.bp_pairs.proofs.PairNumbers.{number_below, one_pair}
-use Rattle.bp_branch.specs.Branches.{PicksAt, IsPicked, IsBranch}
+use Rattle.bp_branch.specs.Branches.{IsPicked, IsBranch}
 use Rattle.bp_branch.proofs.Branches.{next_new, no_new_cycle}
 
 module _ (T : TreeValue) (t : IsTree T) where

@@ -1,20 +1,19 @@
 -- The low points of a path without a next pair are a valid placement.
-use Rattle.std.proofs.Common.{◌≡◌, ℕ, zero, suc, ◌+◌, ◌-◌, ◌*◌, ◌<◌, ◌≤◌, ◌⊎◌, max, List, [], ◌∷◌, ◌++◌, length, get_or, take, None, refl, sym, ◌∙◌, ap, subst, arith, inl, inr}
+use Rattle.std.proofs.Common.{◌≡◌, ℕ, zero, suc, ◌+◌, ◌-◌, ◌*◌, ◌<◌, ◌≤◌, max, List, [], ◌∷◌, ◌++◌, length, get_or, take, None, refl, sym, ap, subst, arith, inl, inr}
 use Rattle.std.specs.Int.{abs_diff}
 use Rattle.std.proofs.lemmas.Bool.{cases_lt}
 use Rattle.bp_base.specs.declared.point.Axis.TheVariants.{X, Y}
 use Rattle.bp_base.specs.declared.point.Point.{Point}
 use Rattle.bp_base.specs.declared.point.Sheet.{Sheet}
 use Rattle.bp_base.specs.declared.point.Sheet.TheVariants.{Square, Strip}
-use Rattle.bp_base.specs.declared.path.Pair.{Pair}
 use Rattle.bp_base.specs.declared.path.Step.{Step}
 use Rattle.bp_base.specs.declared.record.Least.{Least}
 use Rattle.bp_base.specs.Limits.{most_number}
 use Rattle.bp_base.specs.Point.{point_at, gap, origin}
-use Rattle.bp_base.specs.Tree.{TreeValue, IsLeaf, leaf_count}
+use Rattle.bp_base.specs.Tree.{TreeValue}
 use Rattle.bp_metric.specs.Coordinates.{IsLow, IsForced, IsLeast}
 use Rattle.bp_metric.specs.Distance.{leaf_dist}
-use Rattle.bp_metric.specs.Next.{IsNear, IsNext}
+use Rattle.bp_metric.specs.Next.{IsNext}
 use Rattle.bp_metric.specs.Valid.{Valid, Lies, IsPair}
 use Rattle.bp_branch.specs.Branches.{points_of, low_points}
 

@@ -1,4 +1,3 @@
-use Rattle.std.proofs.Common.{◌≡◌}
 use Rattle.bp_branch.proofs.Picked.{picked_branch, stated_picked, branch_short}
 use Rattle.bp_branch.proofs.laws.law_of_branches.Goals as goal
 

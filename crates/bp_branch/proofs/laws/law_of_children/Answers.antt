@@ -1,6 +1,5 @@
-use Rattle.std.proofs.Common.{◌≡◌}
 use Rattle.bp_branch.proofs.Branches.{next_new}
-use Rattle.bp_branch.proofs.Picked.{child_stated, branch_short}
+use Rattle.bp_branch.proofs.Picked.{child_stated}
 use Rattle.bp_branch.proofs.laws.law_of_children.Goals as goal
 
 pub returns-clause-new : goal.returns-clause-new

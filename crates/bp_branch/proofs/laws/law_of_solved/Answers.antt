@@ -1,4 +1,3 @@
-use Rattle.std.proofs.Common.{◌≡◌}
 use Rattle.bp_branch.proofs.Solved.{solved_valid}
 use Rattle.bp_branch.proofs.laws.law_of_solved.Goals as goal
 

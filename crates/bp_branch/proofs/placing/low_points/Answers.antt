@@ -1,4 +1,4 @@
-use Rattle.std.proofs.Common.{rules, ◌≡◌, get_or, ◌∙◌, sym, ap, arith, List, ◌∷◌, [], ◌++◌}
+use Rattle.std.proofs.Common.{rules, get_or, ◌∙◌, sym, ap, arith, List, ◌∷◌, [], ◌++◌}
 use Rattle.bp_base.specs.declared.point.Point.{Point}
 use Rattle.bp_branch.proofs.Solved.{points_more}
 use Rattle.bp_branch.proofs.placing.low_points.Goals as goal
