@@ -1,1 +1,4 @@
 mod Best
+pub mod Branches
+pub mod Picked
+pub mod Solved

@@ -2,9 +2,13 @@
 #![tactic(auto)]
 
 mod judging;
+mod laws;
 mod pairs;
+mod placing;
 #[cfg(test)]
 mod tests;
 
 pub use judging::{examine, extended, judge};
+pub use laws::{law_of_branches, law_of_children, law_of_solved};
 pub use pairs::next_pair;
+pub use placing::low_points;

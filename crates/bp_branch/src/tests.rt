@@ -4,7 +4,9 @@ ghost use Rattle.bp_base.specs.Limits.{most_number};
 ghost use Rattle.bp_metric.specs.Chains.{HasPairsOf};
 ghost use Rattle.bp_metric.specs.Samples.{is_sample, letters};
 
-use crate::{examine, extended, next_pair};
+use crate::{
+    examine, extended, law_of_branches, law_of_children, law_of_solved, low_points, next_pair,
+};
 use bp_base::{Chain, Choice, Claim, Name, Outcome, Pair, Path, Step, Tree};
 use bp_metric::Metric;
 use std::alloc::Global;
@@ -129,5 +131,40 @@ fn paths_of_a_star(rt: HostRuntime) -> Result<(), Fail> {
             "{steps:?}, {bound}"
         );
     }
+    Ok(())
+}
+
+// The low points of the path of these steps, as pairs of numbers.
+fn points(
+    alloc: Global,
+    metric: &Metric,
+    steps: &[(u64, u64, Choice)],
+) -> Result<Vec<(u64, u64)>, Fail> {
+    let path = path_of(alloc, metric.leaves(), steps)?;
+    let (_, least) = examine(alloc, metric, &path, 0)?;
+    let Some(found) = least else {
+        return Err(Fail::from("a cycle"));
+    };
+    if found.xs.len() != found.ys.len() {
+        return Err(Fail::from("no coordinates"));
+    }
+    let mut points = Vec::new(alloc);
+    for point in low_points(alloc, &found)?.as_slice() {
+        points.push((point.x, point.y))?;
+    }
+    Ok(points)
+}
+
+#[test]
+fn points_of_a_star(rt: HostRuntime) -> Result<(), Fail> {
+    let alloc = rt.alloc();
+    let star = tree(alloc, &[0, 0, 0, 0], &[0, 2, 2, 1])?;
+    let metric = Metric::of(alloc, &star)?;
+    law_of_branches(&metric);
+    law_of_children(&metric);
+    law_of_solved(&metric);
+    let steps = [(1, 2, Choice::Left), (1, 3, Choice::Below)];
+    let found = points(alloc, &metric, &steps)?;
+    assert_eq!(rt; found.as_slice(), [(0, 0), (4, 0), (0, 3)].as_slice());
     Ok(())
 }

@@ -10,3 +10,4 @@ mod Bests
 mod HalfLaws
 mod Filled
 mod Keeping
+mod Beginnings

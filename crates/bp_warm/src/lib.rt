@@ -3,6 +3,7 @@
 
 mod back;
 mod frames;
+mod going;
 mod growing;
 mod halves;
 mod links;

@@ -258,3 +258,42 @@ fn two_steps_of_a_star(rt: HostRuntime) -> Result<(), Fail> {
     assert_eq!(rt; leaves.as_slice(), [1, 2, 3].as_slice());
     Ok(())
 }
+
+// Goes to the path of these steps; whether it has no cycle.
+fn goes(alloc: Global, metric: &Metric, warm: &mut Warm, steps: &[Step]) -> Result<bool, Fail>
+    requires { metric.now ≡ warm.old.metric }
+    ensures { warm.new.metric ≡ warm.old.metric }
+{
+    let n = metric.leaves();
+    let path = path_of(alloc, n, steps)?;
+    if path.len() > n * (n - 1) / 2 {
+        return Err(Fail::from("too long"));
+    }
+    Ok(warm.go_to(metric, &path).is_none())
+}
+
+#[test]
+fn from_path_to_path(rt: HostRuntime) -> Result<(), Fail> {
+    let alloc = rt.alloc();
+    let tree = tree(alloc, &[0, 0, 0, 0], &[0, 1, 1, 1])?;
+    let metric = Metric::of(alloc, &tree)?;
+    let mut warm = Warm::open(alloc, &metric)?;
+    let right = Step {
+        pair: Pair { i: 1, j: 3 },
+        choice: Choice::Right,
+    };
+    let paths: [&[Step]; 4] = [
+        &[left_of(1, 2), left_of(2, 3)],
+        &[left_of(1, 2), right],
+        &[],
+        &[left_of(2, 3)],
+    ];
+    for steps in paths {
+        assert!(rt; goes(alloc, &metric, &mut warm, steps)?);
+        assert_eq!(rt; warm.len(), steps.len() as u64);
+        is_warm(&rt, alloc, &metric, &warm, steps)?;
+    }
+    let cycle = [left_of(1, 2), left_of(2, 3), right];
+    assert!(rt; !goes(alloc, &metric, &mut warm, &cycle)?);
+    Ok(())
+}

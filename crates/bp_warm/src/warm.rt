@@ -1,15 +1,16 @@
-ghost use Rattle.std.specs.Prelude.{◌≡◌, ◌<◌, ◌≤◌, ◌++◌, ◌∷◌, [], ℕ, IfOk, MatchOption, length};
+ghost use Rattle.std.specs.Prelude.{◌≡◌, ◌<◌, ◌≤◌, ◌++◌, ◌∷◌, [], ℕ, IfOk, MatchOption, length, take};
 ghost use Rattle.bp_base.specs.Path.{IsPairOf};
 ghost use Rattle.bp_base.specs.Tree.{leaf_count};
 ghost use Rattle.bp_metric.specs.Coordinates.{IsCycleShown, IsLeast};
 ghost use Rattle.bp_warm.specs.Warm.{IsHalf, pair_count};
 
 use crate::frames::{blanks, fill};
+use crate::going::in_common;
 use crate::halves::{Half, grow_both, shrink_both};
 use crate::links::Links;
 use crate::orders::order_of;
 use crate::work::Work;
-use bp_base::{Axis, Claim, Least, NoMemory, Sheet, Step, Tree};
+use bp_base::{Axis, Claim, Least, NoMemory, Path, Sheet, Step, Tree};
 use bp_metric::Metric;
 use std::alloc::Global;
 use std::marker::Model;
@@ -154,6 +155,21 @@ impl Warm {
             &mut self.x,
             &mut self.y,
         );
+    }
+
+    /// How many steps the path has.
+    pub fn len(&self) -> u64
+        ensures { result ≡ length self.now.path }
+    {
+        self.steps.len() as u64
+    }
+
+    // How many steps at their beginnings this path and the other have in common.
+    pub fn common(&self, path: &Path) -> u64
+        ensures within { (result ≤ length self.now.path) × (result ≤ length path.now) }
+        ensures same { take result self.now.path ≡ take result path.now }
+    {
+        in_common(&self.steps, path)
     }
 
     /// The least coordinates of the path, in grid units, with the side that it forces and the chain that is shown for it.
