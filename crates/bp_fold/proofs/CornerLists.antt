@@ -3,7 +3,8 @@ use Rattle.std.proofs.Common.{◌≡◌, ℕ, ◌+◌, ◌<◌, ◌≤◌, List,
 use Rattle.std.proofs.lemmas.Bool.{cases_eq}
 use Rattle.bp_regions.specs.Regions.{RegionsValue}
 use Rattle.bp_fold.specs.declared.mesh.Corner.{Corner}
-use Rattle.bp_fold.specs.Meshes.{AreCornersBefore, IsCornerOf, crossing}
+use Rattle.bp_fold.specs.Meshes.{crossing}
+use Rattle.bp_fold.specs.Numbering.{AreCornersBefore, IsCornerOf}
 use Rattle.bp_fold.specs.Vertices.{IsVertex}
 use Rattle.bp_fold.proofs.Listing.{lists_none, lists_push, lists_skip}
 

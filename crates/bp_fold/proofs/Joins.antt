@@ -9,7 +9,7 @@ use Rattle.bp_base.specs.Point.{origin}
 use Rattle.bp_regions.specs.Regions.{RegionsValue}
 use Rattle.bp_fold.specs.declared.drawing.Edge.{Edge}
 use Rattle.bp_fold.specs.Edges.{AreJoined, IsEdgeOf, RunsRight, RunsUp, vertex_at}
-use Rattle.bp_fold.specs.Meshes.{AreEdgesBefore, Leads, edge_to}
+use Rattle.bp_fold.specs.Numbering.{AreEdgesBefore, Leads, edge_to}
 use Rattle.bp_fold.specs.Vertices.{ComesBefore, IsVertex}
 use Rattle.bp_fold.proofs.Listing.{asymmetric, lists_push, lists_skip, number_order, one_number}
 

@@ -9,7 +9,8 @@ use Rattle.bp_base.specs.Point.{origin}
 use Rattle.bp_regions.specs.Regions.{RegionsValue}
 use Rattle.bp_fold.specs.declared.mesh.Corner.{Corner}
 use Rattle.bp_fold.specs.Edges.{RunsRight, RunsUp, vertex_at}
-use Rattle.bp_fold.specs.Meshes.{AreCorners, IsCornerOf, IsMesh, Leads, StandsBefore, corner_at, crossing, point_of, points_of}
+use Rattle.bp_fold.specs.Meshes.{IsMesh, crossing}
+use Rattle.bp_fold.specs.Numbering.{AreCorners, IsCornerOf, Leads, StandsBefore, corner_at, point_of, points_of}
 use Rattle.bp_fold.specs.Vertices.{ComesBefore, HasRight, HasUpper, IsBefore, IsVertex}
 use Rattle.bp_fold.proofs.Along.{on_column, on_row, right_run, right_stops, up_run}
 use Rattle.bp_fold.proofs.Joins.{AreVertices, same_point}

@@ -10,7 +10,8 @@ use Rattle.bp_fold.specs.declared.drawing.Letter.{Letter}
 use Rattle.bp_fold.specs.declared.mesh.Corner.{Corner}
 use Rattle.bp_fold.specs.Drawings.{IsDrawing}
 use Rattle.bp_fold.specs.Edges.{GoesBefore, IsEdgeOf, letter_of}
-use Rattle.bp_fold.specs.Meshes.{AreCorners, AreEdgesBefore, IsMesh, point_of, points_of}
+use Rattle.bp_fold.specs.Meshes.{IsMesh}
+use Rattle.bp_fold.specs.Numbering.{AreCorners, AreEdgesBefore, point_of, points_of}
 use Rattle.bp_fold.specs.Vertices.{ComesBefore}
 use Rattle.bp_fold.proofs.Joins.{points_asym}
 use Rattle.bp_fold.proofs.Listing.{asymmetric, one_list}

@@ -5,3 +5,4 @@ pub mod Drawings
 pub mod FoldText
 pub mod Listing
 pub mod Meshes
+pub mod Numbering

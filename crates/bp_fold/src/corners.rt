@@ -1,6 +1,7 @@
 // The vertices, as crossings of cut lines and as points. A grid point that is no crossing is no vertex.
 ghost use Rattle.std.specs.Prelude.{◌≡◌, ◌+◌, ◌<◌, All, IfOk, OnOk, length};
-ghost use Rattle.bp_fold.specs.Meshes.{AreCorners, AreCornersBefore, IsMesh, points_of};
+ghost use Rattle.bp_fold.specs.Meshes.{FitsRegions};
+ghost use Rattle.bp_fold.specs.Numbering.{HasCorners, HasCornersBefore, vertices_of};
 
 use crate::mesh::{Corner, Mesh};
 use bp_base::{NoMemory, Point};
@@ -8,8 +9,8 @@ use std::alloc::Global;
 
 // The crossings that are vertices, by rising row and column.
 pub fn corners_of(alloc: Global, mesh: &Mesh) -> Result<Vec<Corner>, NoMemory>
-    requires mesh { IsMesh mesh.now.regions.now mesh.now.xs.now mesh.now.ys.now mesh.now.owners.items }
-    ensures { IfOk result (λ v. AreCorners mesh.now.regions.now mesh.now.xs.now mesh.now.ys.now v.items) }
+    requires mesh { FitsRegions mesh.now }
+    ensures { IfOk result (λ v. HasCorners mesh.now v.items) }
 {
     let mut corners = Vec::new(alloc);
     for row in 0..mesh.ys.len() {
@@ -19,10 +20,10 @@ pub fn corners_of(alloc: Global, mesh: &Mesh) -> Result<Vec<Corner>, NoMemory>
 }
 
 fn add_row(corners: &mut Vec<Corner>, mesh: &Mesh, row: usize) -> Result<(), NoMemory>
-    requires mesh { IsMesh mesh.now.regions.now mesh.now.xs.now mesh.now.ys.now mesh.now.owners.items }
+    requires mesh { FitsRegions mesh.now }
     requires row { row < length mesh.now.ys.now }
-    requires before { AreCornersBefore mesh.now.regions.now mesh.now.xs.now mesh.now.ys.now row 0 corners.old.items }
-    ensures { OnOk result (AreCornersBefore mesh.now.regions.now mesh.now.xs.now mesh.now.ys.now (row + 1) 0 corners.new.items) }
+    requires before { HasCornersBefore mesh.now row 0 corners.old.items }
+    ensures { OnOk result (HasCornersBefore mesh.now (row + 1) 0 corners.new.items) }
 {
     for column in 0..mesh.xs.len() {
         add_corner(corners, mesh, column, row)?;
@@ -36,11 +37,11 @@ fn add_corner(
     column: usize,
     row: usize,
 ) -> Result<(), NoMemory>
-    requires mesh { IsMesh mesh.now.regions.now mesh.now.xs.now mesh.now.ys.now mesh.now.owners.items }
+    requires mesh { FitsRegions mesh.now }
     requires column { column < length mesh.now.xs.now }
     requires row { row < length mesh.now.ys.now }
-    requires before { AreCornersBefore mesh.now.regions.now mesh.now.xs.now mesh.now.ys.now row column corners.old.items }
-    ensures { OnOk result (AreCornersBefore mesh.now.regions.now mesh.now.xs.now mesh.now.ys.now row (column + 1) corners.new.items) }
+    requires before { HasCornersBefore mesh.now row column corners.old.items }
+    ensures { OnOk result (HasCornersBefore mesh.now row (column + 1) corners.new.items) }
 {
     if mesh.is_vertex(column, row) {
         corners.push(Corner { column, row })?;
@@ -51,7 +52,7 @@ fn add_corner(
 // The points of the crossings.
 pub fn points_of(alloc: Global, mesh: &Mesh, corners: &[Corner]) -> Result<Vec<Point>, NoMemory>
     requires corners { All (λ c. (c.column < length mesh.now.xs.now) × (c.row < length mesh.now.ys.now)) corners.now }
-    ensures { IfOk result (λ v. v.items ≡ points_of mesh.now.xs.now mesh.now.ys.now corners.now) }
+    ensures { IfOk result (λ v. v.items ≡ vertices_of mesh.now corners.now) }
 {
     let mut points = Vec::with_capacity(alloc, corners.len())?;
     for corner in corners {

@@ -2,7 +2,7 @@
 ghost use Rattle.std.specs.Prelude.{◌≡◌, ◌⊎◌, ◌+◌, ◌-◌, ◌<◌, ◌↔◌, ℕ, IsTrue, IfOk, length, slice_index};
 ghost use Rattle.bp_base.specs.declared.point.Axis.TheVariants.{X, Y};
 ghost use Rattle.bp_regions.specs.Regions.{AreRegions};
-ghost use Rattle.bp_fold.specs.Meshes.{AreLines, AreOwners, IsMesh, IsOwner, crossing};
+ghost use Rattle.bp_fold.specs.Meshes.{AreLines, AreOwners, FitsRegions, IsOwner, crossing_of};
 ghost use Rattle.bp_fold.specs.Segments.{IsDrawn};
 ghost use Rattle.bp_fold.specs.Vertices.{HasLeft, HasLower, HasRight, HasUpper, IsVertex, is_bent};
 
@@ -27,7 +27,7 @@ pub struct Corner {
 
 pub fn mesh_of(alloc: Global, regions: &Regions) -> Result<Mesh<'_>, NoMemory>
     ensures regions { IfOk result (λ m. m.regions.now ≡ regions.now) }
-    ensures mesh { IfOk result (λ m. IsMesh m.regions.now m.xs.now m.ys.now m.owners.items) }
+    ensures mesh { IfOk result (λ m. FitsRegions m) }
 {
     let xs = regions.cuts(Axis::X);
     let ys = regions.cuts(Axis::Y);
@@ -64,7 +64,7 @@ fn owners_of(
 impl Mesh<'_> {
     // The sheet's side, where the last line lies.
     pub fn side(&self) -> u64
-        requires mesh { IsMesh self.now.regions.now self.now.xs.now self.now.ys.now self.now.owners.items }
+        requires mesh { FitsRegions self.now }
         ensures { result ≡ self.now.regions.now.side }
     {
         match self.ys.last() {
@@ -75,10 +75,10 @@ impl Mesh<'_> {
 
     // Whether the crossing is a vertex.
     pub fn is_vertex(&self, column: usize, row: usize) -> bool
-        requires mesh { IsMesh self.now.regions.now self.now.xs.now self.now.ys.now self.now.owners.items }
+        requires mesh { FitsRegions self.now }
         requires column { column < length self.now.xs.now }
         requires row { row < length self.now.ys.now }
-        ensures { IsTrue result ↔ IsVertex self.now.regions.now (crossing self.now.xs.now self.now.ys.now column row) }
+        ensures { IsTrue result ↔ IsVertex self.now.regions.now (crossing_of self.now column row) }
     {
         let left = self.has_left(column, row);
         let right = self.has_right(column, row);
@@ -88,10 +88,10 @@ impl Mesh<'_> {
     }
 
     fn has_left(&self, column: usize, row: usize) -> bool
-        requires mesh { IsMesh self.now.regions.now self.now.xs.now self.now.ys.now self.now.owners.items }
+        requires mesh { FitsRegions self.now }
         requires column { column < length self.now.xs.now }
         requires row { row < length self.now.ys.now }
-        ensures { IsTrue result ↔ HasLeft self.now.regions.now (crossing self.now.xs.now self.now.ys.now column row) }
+        ensures { IsTrue result ↔ HasLeft self.now.regions.now (crossing_of self.now column row) }
     {
         if column == 0 {
             return false;
@@ -100,10 +100,10 @@ impl Mesh<'_> {
     }
 
     pub fn has_right(&self, column: usize, row: usize) -> bool
-        requires mesh { IsMesh self.now.regions.now self.now.xs.now self.now.ys.now self.now.owners.items }
+        requires mesh { FitsRegions self.now }
         requires column { column < length self.now.xs.now }
         requires row { row < length self.now.ys.now }
-        ensures { IsTrue result ↔ HasRight self.now.regions.now (crossing self.now.xs.now self.now.ys.now column row) }
+        ensures { IsTrue result ↔ HasRight self.now.regions.now (crossing_of self.now column row) }
     {
         if column + 1 == self.xs.len() {
             return false;
@@ -112,10 +112,10 @@ impl Mesh<'_> {
     }
 
     fn has_lower(&self, column: usize, row: usize) -> bool
-        requires mesh { IsMesh self.now.regions.now self.now.xs.now self.now.ys.now self.now.owners.items }
+        requires mesh { FitsRegions self.now }
         requires column { column < length self.now.xs.now }
         requires row { row < length self.now.ys.now }
-        ensures { IsTrue result ↔ HasLower self.now.regions.now (crossing self.now.xs.now self.now.ys.now column row) }
+        ensures { IsTrue result ↔ HasLower self.now.regions.now (crossing_of self.now column row) }
     {
         if row == 0 {
             return false;
@@ -124,10 +124,10 @@ impl Mesh<'_> {
     }
 
     pub fn has_upper(&self, column: usize, row: usize) -> bool
-        requires mesh { IsMesh self.now.regions.now self.now.xs.now self.now.ys.now self.now.owners.items }
+        requires mesh { FitsRegions self.now }
         requires column { column < length self.now.xs.now }
         requires row { row < length self.now.ys.now }
-        ensures { IsTrue result ↔ HasUpper self.now.regions.now (crossing self.now.xs.now self.now.ys.now column row) }
+        ensures { IsTrue result ↔ HasUpper self.now.regions.now (crossing_of self.now column row) }
     {
         if row + 1 == self.ys.len() {
             return false;
@@ -137,7 +137,7 @@ impl Mesh<'_> {
 
     // Whether the row's line is drawn from this column's line to the next.
     fn level(&self, column: usize, row: usize) -> bool
-        requires mesh { IsMesh self.now.regions.now self.now.xs.now self.now.ys.now self.now.owners.items }
+        requires mesh { FitsRegions self.now }
         requires column { column + 1 < length self.now.xs.now }
         requires row { row < length self.now.ys.now }
         ensures { IsTrue result ↔ IsDrawn self.now.regions.now X (slice_index self.now.xs.now column) (slice_index self.now.ys.now row) }
@@ -150,7 +150,7 @@ impl Mesh<'_> {
 
     // Whether the column's line is drawn from this row's line to the next.
     fn upright(&self, column: usize, row: usize) -> bool
-        requires mesh { IsMesh self.now.regions.now self.now.xs.now self.now.ys.now self.now.owners.items }
+        requires mesh { FitsRegions self.now }
         requires column { column < length self.now.xs.now }
         requires row { row + 1 < length self.now.ys.now }
         ensures { IsTrue result ↔ IsDrawn self.now.regions.now Y (slice_index self.now.xs.now column) (slice_index self.now.ys.now row) }
@@ -163,7 +163,7 @@ impl Mesh<'_> {
 
     // The owner of the cell.
     fn owner(&self, column: usize, row: usize) -> Option<u64>
-        requires mesh { IsMesh self.now.regions.now self.now.xs.now self.now.ys.now self.now.owners.items }
+        requires mesh { FitsRegions self.now }
         requires column { column + 1 < length self.now.xs.now }
         requires row { row + 1 < length self.now.ys.now }
         ensures { IsOwner self.now.regions.now (slice_index self.now.xs.now column) (slice_index self.now.ys.now row) result }

@@ -2,7 +2,8 @@
 ghost use Rattle.std.specs.Prelude.{◌≡◌, ◌+◌, ◌<◌, ◌≤◌, ◌↔◌, ◌++◌, ℕ, IsTrue, IfOk, OnOk, length, map, slice_index_or, All, ◌==◌, ◌&&◌, ◌||◌};
 ghost use Rattle.std.specs.List.{AllPairs, Contains};
 ghost use Rattle.bp_fold.specs.Edges.{IsEdgeOf, RunsRight, RunsUp, letter_of};
-ghost use Rattle.bp_fold.specs.Meshes.{AreCorners, AreEdgesBefore, IsMesh, Leads, StandsBefore, corner_at, crossing, edge_to, points_of};
+ghost use Rattle.bp_fold.specs.Meshes.{FitsRegions, crossing_of};
+ghost use Rattle.bp_fold.specs.Numbering.{HasCorners, HasEdgesBefore, Leads, StandsBefore, corner_at, edge_to, vertices_of};
 ghost use Rattle.bp_fold.specs.Vertices.{HasUpper, IsBefore, IsVertex};
 
 use crate::drawing::{Edge, Letter};
@@ -12,9 +13,9 @@ use std::alloc::Global;
 
 // All edges, by rising numbers.
 pub fn edges_of(alloc: Global, mesh: &Mesh, corners: &[Corner]) -> Result<Vec<Edge>, NoMemory>
-    requires mesh { IsMesh mesh.now.regions.now mesh.now.xs.now mesh.now.ys.now mesh.now.owners.items }
-    requires corners { AreCorners mesh.now.regions.now mesh.now.xs.now mesh.now.ys.now corners.now }
-    ensures { IfOk result (λ v. AreEdgesBefore mesh.now.regions.now (points_of mesh.now.xs.now mesh.now.ys.now corners.now) (length corners.now) 0 v.items) }
+    requires mesh { FitsRegions mesh.now }
+    requires corners { HasCorners mesh.now corners.now }
+    ensures { IfOk result (λ v. HasEdgesBefore mesh.now corners.now (length corners.now) 0 v.items) }
 {
     let mut edges = Vec::new(alloc);
     for from in 0..corners.len() {
@@ -30,11 +31,11 @@ fn add_edges(
     corners: &[Corner],
     from: usize,
 ) -> Result<(), NoMemory>
-    requires mesh { IsMesh mesh.now.regions.now mesh.now.xs.now mesh.now.ys.now mesh.now.owners.items }
-    requires corners { AreCorners mesh.now.regions.now mesh.now.xs.now mesh.now.ys.now corners.now }
+    requires mesh { FitsRegions mesh.now }
+    requires corners { HasCorners mesh.now corners.now }
     requires from { from < length corners.now }
-    requires before { AreEdgesBefore mesh.now.regions.now (points_of mesh.now.xs.now mesh.now.ys.now corners.now) from 0 edges.old.items }
-    ensures { OnOk result (AreEdgesBefore mesh.now.regions.now (points_of mesh.now.xs.now mesh.now.ys.now corners.now) (from + 1) 0 edges.new.items) }
+    requires before { HasEdgesBefore mesh.now corners.now from 0 edges.old.items }
+    ensures { OnOk result (HasEdgesBefore mesh.now corners.now (from + 1) 0 edges.new.items) }
 {
     let right = right_of(mesh, corners, from);
     let upper = above(mesh, corners, from);
@@ -56,10 +57,10 @@ fn add_edge(edges: &mut Vec<Edge>, from: usize, to: Option<usize>) -> Result<(),
 
 // The number of the vertex to which a run goes to the right: the next one, since vertices are numbered along their rows.
 fn right_of(mesh: &Mesh, corners: &[Corner], from: usize) -> Option<usize>
-    requires mesh { IsMesh mesh.now.regions.now mesh.now.xs.now mesh.now.ys.now mesh.now.owners.items }
-    requires corners { AreCorners mesh.now.regions.now mesh.now.xs.now mesh.now.ys.now corners.now }
+    requires mesh { FitsRegions mesh.now }
+    requires corners { HasCorners mesh.now corners.now }
     requires from { from < length corners.now }
-    ensures { Leads (RunsRight mesh.now.regions.now) (points_of mesh.now.xs.now mesh.now.ys.now corners.now) from result }
+    ensures { Leads (RunsRight mesh.now.regions.now) (vertices_of mesh.now corners.now) from result }
 {
     let corner = corners[from];
     if mesh.has_right(corner.column, corner.row) {
@@ -71,10 +72,10 @@ fn right_of(mesh: &Mesh, corners: &[Corner], from: usize) -> Option<usize>
 
 // The number of the vertex to which a run goes upwards.
 fn above(mesh: &Mesh, corners: &[Corner], from: usize) -> Option<usize>
-    requires mesh { IsMesh mesh.now.regions.now mesh.now.xs.now mesh.now.ys.now mesh.now.owners.items }
-    requires corners { AreCorners mesh.now.regions.now mesh.now.xs.now mesh.now.ys.now corners.now }
+    requires mesh { FitsRegions mesh.now }
+    requires corners { HasCorners mesh.now corners.now }
     requires from { from < length corners.now }
-    ensures { Leads (RunsUp mesh.now.regions.now) (points_of mesh.now.xs.now mesh.now.ys.now corners.now) from result }
+    ensures { Leads (RunsUp mesh.now.regions.now) (vertices_of mesh.now corners.now) from result }
 {
     let corner = corners[from];
     if mesh.has_upper(corner.column, corner.row) {
@@ -87,14 +88,14 @@ fn above(mesh: &Mesh, corners: &[Corner], from: usize) -> Option<usize>
 
 // The row of the first vertex above, to which the column's line is drawn.
 fn next_row(mesh: &Mesh, column: usize, row: usize) -> usize
-    requires mesh { IsMesh mesh.now.regions.now mesh.now.xs.now mesh.now.ys.now mesh.now.owners.items }
+    requires mesh { FitsRegions mesh.now }
     requires column { column < length mesh.now.xs.now }
     requires row { row < length mesh.now.ys.now }
-    requires upper { HasUpper mesh.now.regions.now (crossing mesh.now.xs.now mesh.now.ys.now column row) }
+    requires upper { HasUpper mesh.now.regions.now (crossing_of mesh.now column row) }
     ensures after { row < result }
     ensures within { result < length mesh.now.ys.now }
-    ensures vertex { IsVertex mesh.now.regions.now (crossing mesh.now.xs.now mesh.now.ys.now column result) }
-    ensures free { (k : ℕ) → row < k → k < result → ¬ IsVertex mesh.now.regions.now (crossing mesh.now.xs.now mesh.now.ys.now column k) }
+    ensures vertex { IsVertex mesh.now.regions.now (crossing_of mesh.now column result) }
+    ensures free { (k : ℕ) → row < k → k < result → ¬ IsVertex mesh.now.regions.now (crossing_of mesh.now column k) }
 {
     let mut next = row + 1;
     while !mesh.is_vertex(column, next) {

@@ -4,7 +4,7 @@ ghost use Rattle.bp_base.specs.Limits.{most_number};
 ghost use Rattle.bp_base.specs.Tree.{IsEdge, leaf_count};
 
 use super::*;
-use bp_base::{MemSink, Name, Placement, Point, Sequence, Tree};
+use bp_base::{Axis, MemSink, Name, Placement, Point, Sequence, Tree};
 use bp_metric::Metric;
 use bp_pairs::is_valid;
 use bp_regions::Regions;
@@ -318,7 +318,17 @@ impl Cells<'_> {
     }
 }
 
-// The drawing beside the plain computation.
+// The regions' side, where the last cut lies.
+fn side_of(regions: &Regions) -> u64
+    ensures { result ≡ regions.now.side }
+{
+    match regions.cuts(Axis::X).last() {
+        Some(last) => *last,
+        None => 0,
+    }
+}
+
+// Owners and drawing beside the plain computation.
 fn compare(
     rt: &impl Abort,
     alloc: Global,
@@ -327,6 +337,12 @@ fn compare(
     side: u64,
 ) -> Result<(), Fail> {
     let cells = Cells { owners, side };
+    assert_eq!(rt; side, side_of(regions));
+    for y in 0..side {
+        for x in 0..side {
+            assert_eq!(rt; regions.owner(x, y), cells.owner(x, y), "{x} {y}");
+        }
+    }
     let drawing = draw(alloc, regions)?;
     let vertices = cells.vertices(alloc)?;
     let mut edges = Vec::new(alloc);

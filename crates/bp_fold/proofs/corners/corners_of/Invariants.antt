@@ -1,4 +1,4 @@
-use Rattle.bp_fold.specs.Meshes.{AreCornersBefore}
+use Rattle.bp_fold.specs.Numbering.{AreCornersBefore}
 use Rattle.bp_fold.proofs.corners.corners_of.Given as goal
 
 abbrev pub invariant-loop-row : goal.invariant-loop-row

@@ -1,5 +1,5 @@
 use Rattle.std.proofs.Common.{◌≡◌, map, take}
-use Rattle.bp_fold.specs.Meshes.{point_of}
+use Rattle.bp_fold.specs.Numbering.{point_of}
 use Rattle.bp_fold.proofs.corners.points_of.Given as goal
 
 abbrev pub invariant-loop-corner : goal.invariant-loop-corner

@@ -1,5 +1,5 @@
 use Rattle.std.proofs.Common.{◌∙◌, ap}
-use Rattle.bp_fold.specs.Meshes.{points_of}
+use Rattle.bp_fold.specs.Numbering.{points_of}
 use Rattle.bp_fold.proofs.Whole.{corners_small, drawn, edges_small}
 use Rattle.bp_fold.proofs.creases.draw.Goals as goal
 

@@ -1,5 +1,5 @@
 use Rattle.std.proofs.Common.{get_or, sym, ◌∙◌}
-use Rattle.bp_fold.specs.Meshes.{corner_at}
+use Rattle.bp_fold.specs.Numbering.{corner_at}
 use Rattle.bp_fold.proofs.Numbered.{corner_is, corner_number, leads_up, leads_nowhere_up}
 use Rattle.std.proofs.lemmas.Bool.{false≢true}
 use Rattle.bp_fold.proofs.runs.above.Goals as goal

@@ -1,7 +1,7 @@
 use Rattle.std.proofs.Common.{◌++◌, ◌+◌, List, arith, sym, subst, ap, ◌∙◌}
 use Rattle.std.proofs.lemmas.List.{length-map}
 use Rattle.bp_fold.specs.declared.drawing.Edge.{Edge}
-use Rattle.bp_fold.specs.Meshes.{AreEdgesBefore, edge_to, point_of, points_of}
+use Rattle.bp_fold.specs.Numbering.{AreEdgesBefore, edge_to, point_of, points_of}
 use Rattle.bp_fold.proofs.Joins.{fan}
 use Rattle.bp_fold.proofs.Numbered.{are_vertices, on_ok}
 use Rattle.bp_fold.proofs.runs.add_edges.Goals as goal

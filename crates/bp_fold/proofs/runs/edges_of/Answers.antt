@@ -1,5 +1,5 @@
 use Rattle.std.proofs.Common.{◌≡◌, ℕ, length, arith, subst}
-use Rattle.bp_fold.specs.Meshes.{AreEdgesBefore, points_of}
+use Rattle.bp_fold.specs.Numbering.{AreEdgesBefore, points_of}
 use Rattle.bp_fold.proofs.runs.edges_of.Goals as goal
 
 pub returns : goal.returns

@@ -1,4 +1,4 @@
-use Rattle.bp_fold.specs.Meshes.{AreEdgesBefore, points_of}
+use Rattle.bp_fold.specs.Numbering.{AreEdgesBefore, points_of}
 use Rattle.bp_fold.proofs.runs.edges_of.Given as goal
 
 abbrev pub invariant-loop-from : goal.invariant-loop-from

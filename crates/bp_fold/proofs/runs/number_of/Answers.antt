@@ -1,6 +1,6 @@
 use Rattle.std.proofs.Common.{arith, sym, ◌∙◌}
 use Rattle.std.proofs.lemmas.Bool.{false≢true}
-use Rattle.bp_fold.specs.Meshes.{corner_at}
+use Rattle.bp_fold.specs.Numbering.{corner_at}
 use Rattle.bp_fold.proofs.Numbered.{below_later, not_below}
 use Rattle.bp_fold.proofs.runs.number_of.Goals as goal
 

@@ -1,5 +1,5 @@
 use Rattle.std.proofs.Common.{◌≡◌, ℕ, ◌<◌, ◌≤◌, ◌-◌, length, get_or}
-use Rattle.bp_fold.specs.Meshes.{corner_at}
+use Rattle.bp_fold.specs.Numbering.{corner_at}
 use Rattle.bp_fold.proofs.runs.number_of.Given as goal
 
 abbrev pub invariant-loop-high : goal.invariant-loop-high

@@ -1,4 +1,4 @@
-use Rattle.bp_fold.specs.Meshes.{corner_at}
+use Rattle.bp_fold.specs.Numbering.{corner_at}
 use Rattle.bp_fold.proofs.Numbered.{corner_is, leads_right, leads_nowhere_right}
 use Rattle.std.proofs.lemmas.Bool.{false≢true}
 use Rattle.std.proofs.Common.{sym, ◌∙◌}
