@@ -8,6 +8,12 @@ pub mod LineSteps
 pub mod StartSteps
 pub mod BodySteps
 pub mod EdgeStages
+pub mod HeadSteps
+pub mod NodeSteps
+pub mod Leads
+pub mod NodeLists
+pub mod Documents
+pub mod Scans
 pub mod Nodes
 pub mod Leaves
 mod Parts

@@ -2,6 +2,7 @@
 #![tactic(auto)]
 
 mod body_step;
+mod builder;
 mod cut;
 mod document;
 mod edge_step;
@@ -15,14 +16,17 @@ mod node_step;
 mod point_step;
 mod points;
 mod room;
+mod scanner;
 mod stage;
 mod start_step;
+mod step;
 mod write;
 
 pub use document::Document;
 pub use fault::{DocFault, DocKind, ReadDoc};
 pub use head::Head;
 pub use node_line::{NodeKind, NodeLine};
+pub use scanner::Scanner;
 pub use write::write_document;
 
 #[cfg(test)]
