@@ -1,9 +1,8 @@
 -- Nodes that follow one another are those of a refutation, and a whole text is that of a document.
-use Rattle.std.proofs.Common.{◌≡◌, ℕ, zero, suc, ◌+◌, ◌-◌, ◌<◌, ◌≤◌, ◌⊎◌, inl, inr, List, [], ◌∷◌, ◌++◌, length, get_or, take, All, Option, None, Some, refl, sym, ◌∙◌, ap, subst, arith, append_assoc, length-append}
+use Rattle.std.proofs.Common.{◌≡◌, ℕ, zero, suc, ◌+◌, ◌-◌, ◌≤◌, ◌⊎◌, inl, inr, List, [], ◌∷◌, ◌++◌, length, get_or, take, Option, None, Some, refl, sym, ◌∙◌, ap, subst, arith, append_assoc, length-append}
 use Rattle.std.specs.Prelude.{codes, decimal}
 use Rattle.std.specs.List.{flat_map, AllByRecursion}
 use Rattle.std.proofs.lemmas.List.{append-nil, length-take-le}
-use Rattle.bp_base.specs.declared.path.Pair.{Pair}
 use Rattle.bp_base.specs.declared.refutation.Refutation.{Refutation}
 use Rattle.bp_base.specs.declared.refutation.Refutation.TheVariants.{Split, Closed, Open}
 use Rattle.bp_base.specs.declared.point.Sheet.TheVariants.{Square}
@@ -16,11 +15,11 @@ use Rattle.bp_document.specs.declared.head.Head.{Head}
 use Rattle.bp_document.specs.declared.node_line.NodeKind.{NodeKind}
 use Rattle.bp_document.specs.declared.node_line.NodeLine.{NodeLine}
 use Rattle.bp_document.specs.Lines.{line, sheet_line}
-use Rattle.bp_document.specs.Ranges.{IsProof, HasProof, IsDocument}
+use Rattle.bp_document.specs.Ranges.{IsProof, HasProof}
 use Rattle.bp_document.specs.Text.{proof_lines, body_text, first_text, doc_text, node_lines}
 use Rattle.bp_document.specs.Forms.{proof_line, end_line, IsProofCount}
 use Rattle.bp_document.specs.Nodes.{node_text}
-use Rattle.bp_document.specs.Places.{IsStart, StartsThen, nodes_part, floor_part, IsHead, DepthFits, Follow, deepest, count_of}
+use Rattle.bp_document.specs.Places.{StartsThen, nodes_part, floor_part, IsHead, Follow, deepest, count_of}
 use Rattle.bp_document.specs.Faults.{IsTextOf}
 use Rattle.bp_document.specs.Told.{node_at, node_list, IsProofTold, IsToldBy}
 use Rattle.bp_document.specs.Built.{told}

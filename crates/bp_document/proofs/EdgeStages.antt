@@ -29,7 +29,7 @@ edges_more E es e =
     (ap (λ (t : List ℕ). flat_map edge_text es ++ t) (sym (append-nil (edge_text e))) ∙ sym (flat_map-append edge_text es (e ∷ [])))
 
 -- all edges are the lines of their tree
-edges_whole : (T : TreeValue) → IsTree T → (E : ℕ) (es : List Edge) → HasEdges T es → node_count T - 1 ≡ E → edges_part E es ≡ edge_lines T
+pub edges_whole : (T : TreeValue) → IsTree T → (E : ℕ) (es : List Edge) → HasEdges T es → node_count T - 1 ≡ E → edges_part E es ≡ edge_lines T
 unfolding edge_lines
 edges_whole T is E es has count =
     ap (λ (n : ℕ). line (codes "edges") (decimal n ∷ []) ++ flat_map edge_text es) (sym count)

@@ -1,5 +1,5 @@
 -- The lines of points, floor and proof lead on, or have their first fault.
-use Rattle.std.proofs.Common.{◌≡◌, ℕ, ◌+◌, ◌-◌, ◌<◌, ◌≤◌, true, false, List, [], ◌∷◌, ◌++◌, length, get_or, zip, All, Bool, Option, None, Some, Ok, Err, refl, sym, ◌∙◌, ap, subst, arith, append_assoc, length-append}
+use Rattle.std.proofs.Common.{◌≡◌, ℕ, ◌+◌, ◌-◌, ◌<◌, ◌≤◌, true, List, [], ◌∷◌, ◌++◌, length, get_or, zip, Bool, Option, None, Some, Ok, Err, refl, sym, ◌∙◌, ap, subst, arith, append_assoc, length-append}
 use Rattle.std.specs.Prelude.{codes, decimal, nat_lt, unwrap_or, if◌then◌else◌}
 use Rattle.std.specs.List.{flat_map}
 use Rattle.std.proofs.lemmas.Bool.{lt-ltb, le-ltb}
@@ -8,7 +8,6 @@ use Rattle.std.proofs.lemmas.List.{append-nil}
 use Rattle.std.proofs.lemmas.List.Elements.{All-append, All-cons, All-nil}
 use Rattle.bp_base.specs.declared.point.Point.{Point}
 use Rattle.bp_base.specs.declared.point.Floor.{Floor}
-use Rattle.bp_base.specs.Limits.{most_number}
 use Rattle.bp_base.specs.Tree.{TreeValue, leaf_count, leaf_nodes, name_of}
 use Rattle.bp_document.specs.declared.fault.DocKind.{DocKind}
 use Rattle.bp_document.specs.declared.fault.DocKind.TheVariants.{BadForm}
@@ -20,9 +19,9 @@ use Rattle.bp_document.specs.Lines.{line, point_line, floor_line}
 use Rattle.bp_document.specs.Text.{point_lines}
 use Rattle.bp_document.specs.Ranges.{IsSmallPoint}
 use Rattle.bp_document.specs.Words.{words}
-use Rattle.bp_document.specs.Forms.{IsPointForm, IsFloorForm, IsProofForm, proof_line}
+use Rattle.bp_document.specs.Forms.{IsFloorForm, IsProofForm, proof_line}
 use Rattle.bp_document.specs.FormWords.{ReadsFloorForm, ReadsProofForm}
-use Rattle.bp_document.specs.Places.{Place, AtPoint, AtFloor, AtProof, HasPoints, next_leaf, side_part, points_part, floor_part, nodes_part, count_of}
+use Rattle.bp_document.specs.Places.{Place, AtPoint, AtFloor, AtProof, next_leaf, side_part, points_part, floor_part, count_of}
 use Rattle.bp_document.specs.Faults.{HasForm, IsFirstKind, FeedsPoint}
 use Rattle.bp_tree.specs.declared.edge.Edge.{Edge}
 use Rattle.bp_document.specs.Stages.{Stands, FeedsStage, head_of}

@@ -1,5 +1,5 @@
 -- What a stage stands for leads to its place, and what a line does there.
-use Rattle.std.proofs.Common.{◌≡◌, ℕ, ◌+◌, ◌<◌, ◌≤◌, true, false, List, [], ◌∷◌, ◌++◌, length, Bool, Option, None, Some, Result, Ok, Err, refl, sym, ◌∙◌, ap, subst, arith}
+use Rattle.std.proofs.Common.{◌≡◌, ℕ, ◌<◌, true, false, List, [], ◌∷◌, ◌++◌, length, Bool, Option, None, Some, Result, Ok, Err, refl, sym, subst, arith}
 use Rattle.std.specs.Prelude.{nat_lt, if◌then◌else◌}
 use Rattle.std.proofs.lemmas.Bool.{ltb-true, ltb-false}
 use Rattle.bp_base.specs.Tree.{leaf_count}
@@ -14,8 +14,8 @@ use Rattle.bp_document.specs.declared.stage.Fall.{Fall}
 use Rattle.bp_document.specs.declared.stage.Stage.{Stage}
 use Rattle.bp_document.specs.declared.stage.Stage.TheVariants.{Version, Sheet as SheetStage, Edges, Edge as EdgeStage, Side, Bound, Points, Proof, Nodes, Behind as BehindStage, Broken}
 use Rattle.bp_document.specs.Places.{Place, AtPoint, AtFloor, AtNode, AtEnd, Behind, LeadsTo, next_leaf}
-use Rattle.bp_document.specs.Faults.{HasForm, HasKind, IsFirstKind, order}
-use Rattle.bp_document.specs.Stages.{Stands, Steps, StepsOn, FeedsStage, GivesNode, IsBeforeNodes, IsOneMore, IsPlain, Cuts, place_of, told_head, head_of, with_node}
+use Rattle.bp_document.specs.Faults.{HasKind, IsFirstKind, order}
+use Rattle.bp_document.specs.Stages.{Stands, Steps, FeedsStage, GivesNode, IsBeforeNodes, IsOneMore, IsPlain, Cuts, place_of, told_head, head_of}
 
 pub leads : (text : List ℕ) (es : List Edge) (ns : List NodeLine) (s : Stage) → Stands text es ns s → LeadsTo text (place_of s es)
 leads text es ns (Version m) st = st.0

@@ -14,6 +14,14 @@ pub mod Leads
 pub mod NodeLists
 pub mod Documents
 pub mod Scans
+pub mod Spelling
+pub mod OneForm
+pub mod EdgeGoes
+pub mod Runs
+pub mod Reach
+pub mod OneRefutation
+pub mod OneAnswer
+pub mod LongLines
 pub mod Nodes
 pub mod Leaves
 mod Parts

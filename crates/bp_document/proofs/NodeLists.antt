@@ -1,5 +1,5 @@
 -- The nodes of a refutation, as lines and as they are built.
-use Rattle.std.proofs.Common.{◌≡◌, ℕ, zero, suc, ◌+◌, ◌-◌, ◌<◌, ◌≤◌, max, List, [], ◌∷◌, ◌++◌, length, get_or, take, map, All, Option, None, Some, refl, sym, ◌∙◌, ap, subst, arith, append_assoc, length-append}
+use Rattle.std.proofs.Common.{◌≡◌, ℕ, suc, ◌+◌, ◌-◌, ◌≤◌, List, [], ◌∷◌, ◌++◌, length, get_or, take, map, All, Option, None, Some, refl, sym, ◌∙◌, ap, subst, arith, append_assoc, length-append}
 use Rattle.std.specs.List.{flat_map, AllByRecursion}
 use Rattle.std.proofs.lemmas.Grind.{flat_map-append}
 use Rattle.std.proofs.lemmas.List.{append-nil, take_all, take_more}
@@ -11,12 +11,12 @@ use Rattle.bp_base.specs.declared.refutation.Refutation.TheOpen.{Refutation-F}
 use Rattle.bp_base.specs.declared.refutation.Refutation.TheVariants.{Split, Closed, Open, rolls-Split, rolls-Closed, rolls-Open}
 use Rattle.bp_base.specs.declared.refutation.Refutation.TheFolds.{map-Refutation}
 use Rattle.bp_base.specs.Limits.{most_steps}
-use Rattle.bp_metric.specs.Nodes.{Part, SplitOf, ClosedBy, OpenBy, parts_of, node_count_of}
+use Rattle.bp_metric.specs.Nodes.{SplitOf, ClosedBy, OpenBy, parts_of, node_count_of}
 use Rattle.bp_metric.proofs.Refutations.{parts-split, parts-closed, parts-open}
 use Rattle.bp_document.specs.declared.builder.Branch.{Branch}
 use Rattle.bp_document.specs.declared.node_line.NodeKind.{NodeKind}
 use Rattle.bp_document.specs.declared.node_line.NodeLine.{NodeLine}
-use Rattle.bp_document.specs.Ranges.{one_deeper, depth_of, IsSmallPart, IsProof}
+use Rattle.bp_document.specs.Ranges.{one_deeper, depth_of, IsSmallPart}
 use Rattle.bp_document.specs.Text.{node_lines}
 use Rattle.bp_document.specs.Nodes.{IsKindOfNumbers, node_text}
 use Rattle.bp_document.specs.Places.{DepthFits, Follow, deepest}

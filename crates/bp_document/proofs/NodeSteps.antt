@@ -1,5 +1,5 @@
 -- A node line and the line `end` lead on, or have their first fault.
-use Rattle.std.proofs.Common.{◌≡◌, ℕ, zero, suc, ◌+◌, ◌-◌, ◌<◌, ◌≤◌, true, false, List, [], ◌∷◌, ◌++◌, length, Bool, Option, None, Some, Ok, Err, refl, sym, ◌∙◌, ap, subst, arith, append_assoc, length-append}
+use Rattle.std.proofs.Common.{◌≡◌, ℕ, ◌-◌, ◌<◌, true, List, [], ◌∷◌, ◌++◌, Bool, Option, None, Some, Ok, Err, refl, sym, ◌∙◌, ap, subst, arith, append_assoc, length-append}
 use Rattle.std.specs.Prelude.{codes, nat_lt, if◌then◌else◌}
 use Rattle.std.specs.List.{flat_map}
 use Rattle.std.proofs.lemmas.Bool.{lt-ltb, le-ltb}
@@ -12,10 +12,10 @@ use Rattle.bp_document.specs.declared.node_line.NodeLine.{NodeLine}
 use Rattle.bp_document.specs.declared.stage.Stage.{Stage}
 use Rattle.bp_document.specs.Lines.{line}
 use Rattle.bp_document.specs.Forms.{IsLine, proof_line, end_line}
-use Rattle.bp_document.specs.Nodes.{IsKindOfNumbers, IsNodeLine, node_text}
+use Rattle.bp_document.specs.Nodes.{IsKindOfNumbers, node_text}
 use Rattle.bp_document.specs.Places.{Place, AtNode, AtEnd, DepthFits, Follow, deepest, deepest_behind, floor_part, nodes_part}
 use Rattle.bp_document.specs.Faults.{HasForm, IsFirstKind, FeedsNode}
-use Rattle.bp_document.specs.Stages.{Stands, Steps, GivesNode, IsBeforeNodes}
+use Rattle.bp_document.specs.Stages.{Steps, GivesNode}
 use Rattle.bp_document.proofs.EdgeSteps.{bad_form}
 use Rattle.bp_document.proofs.BodySteps.{extended}
 

@@ -1,29 +1,24 @@
 -- What a scanner answers, from what its stage stands for.
-use Rattle.std.proofs.Common.{◌≡◌, ◌≢◌, ℕ, suc, cond, ◌+◌, ◌<◌, ◌≤◌, inl, inr, ◌==◌, true, false, List, [], ◌∷◌, ◌++◌, length, All, Bool, Option, None, Some, Result, Ok, Err, refl, sym, ◌∙◌, ap, subst, arith}
-use Rattle.std.specs.List.{count_by}
+use Rattle.std.proofs.Common.{◌≡◌, ◌≢◌, ℕ, suc, cond, ◌+◌, ◌≤◌, inl, inr, ◌==◌, true, false, List, [], ◌∷◌, ◌++◌, length, All, Bool, Option, None, Some, Ok, Err, refl, sym, ◌∙◌, ap, subst, arith}
 use Rattle.std.specs.Prelude.{nat_lt, if◌then◌else◌}
 use Rattle.std.proofs.lemmas.Bool.{ne_eqb}
 use Rattle.std.proofs.lemmas.List.Sums.{sum_by-append, sum_by-cons}
-use Rattle.std.proofs.lemmas.Bool.{ltb-true, ltb-false}
 use Rattle.bp_base.specs.Tree.{leaf_count}
 use Rattle.bp_tree.specs.declared.edge.Edge.{Edge}
 use Rattle.bp_tree.specs.Growing.{no_nodes}
 use Rattle.bp_tree.specs.Edges.{IsGrowing}
-use Rattle.bp_document.specs.declared.fault.DocKind.{DocKind}
 use Rattle.bp_document.specs.declared.fault.DocKind.TheVariants.{Cut, Trailing}
-use Rattle.bp_document.specs.declared.fault.DocFault.{DocFault}
 use Rattle.bp_document.specs.declared.head.Head.{Head}
 use Rattle.bp_document.specs.declared.node_line.NodeLine.{NodeLine}
 use Rattle.bp_document.specs.declared.stage.Memory.{Memory}
-use Rattle.bp_document.specs.declared.stage.Parts.{Parts}
 use Rattle.bp_document.specs.declared.stage.Step.{Step}
 use Rattle.bp_document.specs.declared.stage.Fall.{Fall}
 use Rattle.bp_document.specs.declared.stage.Stage.{Stage}
 use Rattle.bp_document.specs.declared.stage.Stage.TheVariants.{Version, Sheet as SheetStage, Edges, Edge as EdgeStage, Side, Bound, Points, Proof, Nodes, Behind as BehindStage, Broken}
-use Rattle.bp_document.specs.Places.{Place, AtPoint, AtFloor, AtNode, AtEnd, Behind, LeadsTo, Follow, next_leaf}
-use Rattle.bp_document.specs.Faults.{HasForm, HasKind, IsFirstKind}
-use Rattle.bp_document.specs.Stages.{Stands, Steps, StepsOn, GivesNode, IsBeforeNodes, IsWhole, IsWithin, place_of, told_head, head_of, with_node}
-use Rattle.bp_document.specs.Scanning.{Progress, IsUnbroken, line_count, HasFed, IsFaultBehind, IsFineBehind, FeedsLine, TellsHead, HasTold, IsBeforeProof, IsDocumentFed, FinishesText}
+use Rattle.bp_document.specs.Places.{AtPoint, AtFloor, Follow, next_leaf}
+use Rattle.bp_document.specs.Faults.{HasKind}
+use Rattle.bp_document.specs.Stages.{Stands, Steps, IsBeforeNodes, IsWhole, IsWithin, place_of, told_head, head_of, with_node}
+use Rattle.bp_document.specs.Scanning.{Progress, IsUnbroken, line_count, HasFed, FeedsLine, TellsHead, HasTold, IsBeforeProof, FinishesText}
 use Rattle.bp_document.proofs.Documents.{document_of, told_by, is_text, proof_of}
 use Rattle.bp_document.proofs.Leads.{leads, cut_at, inside_points, inside_nodes}
 

@@ -1,5 +1,5 @@
 -- A refutation that is built from its nodes in preorder.
-use Rattle.std.specs.Prelude.{◌≡◌, ℕ, ◌+◌, ◌<◌, ◌≤◌, min, List, [], ◌∷◌, ◌++◌, length, Option, None, Some, Result, Ok, Err}
+use Rattle.std.specs.Prelude.{◌≡◌, ℕ, ◌+◌, ◌≤◌, min, List, [], ◌∷◌, ◌++◌, length, Option, None, Some, Result, Ok, Err}
 use Rattle.std.specs.List.{flat_map}
 use Rattle.bp_base.specs.declared.memory.NoMemory.{NoMemory}
 use Rattle.bp_base.specs.declared.refutation.Refutation.{Refutation}

@@ -1,5 +1,5 @@
 -- What a scanner was fed, and what it answers to a line, to a question for the head, and to the end of input.
-use Rattle.std.specs.Prelude.{◌≡◌, ◌⊎◌, ℕ, ◌+◌, ◌≤◌, ◌==◌, List, [], ◌∷◌, ◌++◌, length, count_by, Bool, true, false, Option, None, Some, Result, Ok, Err}
+use Rattle.std.specs.Prelude.{◌≡◌, ◌⊎◌, ℕ, ◌+◌, ◌<◌, ◌≤◌, ◌==◌, List, [], ◌∷◌, ◌++◌, length, count_by, Bool, true, false, Option, None, Some, Result, Ok, Err}
 use Rattle.bp_base.specs.Limits.{most_document_bytes}
 use Rattle.bp_tree.specs.declared.edge.Edge.{Edge}
 use Rattle.bp_document.specs.declared.document.Document.{Document}
@@ -10,8 +10,7 @@ use Rattle.bp_document.specs.declared.head.Head.{Head}
 use Rattle.bp_document.specs.declared.node_line.NodeLine.{NodeLine}
 use Rattle.bp_document.specs.declared.stage.Stage.{Stage}
 use Rattle.bp_document.specs.Forms.{end_line}
-use Rattle.bp_document.specs.Nodes.{IsNodeLine}
-use Rattle.bp_document.specs.Places.{Place, AtVersion, AtSheet, AtEdges, AtEdge, AtSide, AtBound, AtPoint, AtFloor, AtProof, AtNode, AtEnd, Behind, DepthFits, Follow, IsHead, LeadsTo, StartsThen, nodes_part, count_of}
+use Rattle.bp_document.specs.Places.{Place, AtNode, AtEnd, Behind, Follow, IsHead, LeadsTo, StartsThen, nodes_part}
 use Rattle.bp_document.specs.Faults.{HasForm, IsFirstKind, IsTextOf}
 use Rattle.bp_document.specs.Stages.{Stands, IsBeforeNodes, IsWhole, told_head, with_node, GivesNode}
 use Rattle.bp_document.specs.Told.{IsToldBy}
@@ -89,3 +88,15 @@ pub record IsDocumentFed (text : List ℕ) (ns : List NodeLine) (answer : Option
 abbrev pub FinishesText : Progress → Result Unit DocFault → Type 0
 FinishesText P (Ok done) = (text : List ℕ) (ns : List NodeLine) → HasFed P text ns → IsDocumentFed text ns (told_head P.stage)
 FinishesText P (Err f) = (f.kind ≡ Cut) × ((text : List ℕ) (ns : List NodeLine) → HasFed P text ns → IsFaultBehind text [] false f)
+
+-- longer than the line of any form
+abbrev pub IsLongLine : List ℕ → Type 0
+IsLongLine line = 512 < length line
+
+abbrev pub IsTooLongForAll : List ℕ → Type 0
+IsTooLongForAll line = IsLongLine line → (place : Place) → HasForm place line → ⊥
+
+-- Where two lines are both too long, and both have their LF or neither has, they have the same fault.
+abbrev pub HasSameFault : List ℕ → List ℕ → Type 0
+HasSameFault line other =
+    IsLongLine line → IsLongLine other → (place : Place) (ended : Bool) (kind : DocKind) → IsFirstKind place line ended kind → IsFirstKind place other ended kind

@@ -1,5 +1,5 @@
 use Rattle.std.proofs.Common.{arith}
-use Rattle.bp_document.proofs.NodeSteps.{node_fed, node_refused}
+use Rattle.bp_document.proofs.NodeSteps.{node_fed}
 use Rattle.bp_document.proofs.node_step.step_node.Goals as goal
 
 pub returns-in-Ok : goal.returns-in-Ok

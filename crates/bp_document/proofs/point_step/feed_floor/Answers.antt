@@ -1,4 +1,4 @@
-use Rattle.std.proofs.Common.{List, ℕ, Some, subst, sym, Ok}
+use Rattle.std.proofs.Common.{List, ℕ, subst, sym, Ok}
 use Rattle.bp_document.specs.declared.stage.Stage.{Stage}
 use Rattle.bp_document.specs.Stages.{FeedsStage}
 use Rattle.bp_document.proofs.HeadSteps.{floor_refused, floor_fed}
