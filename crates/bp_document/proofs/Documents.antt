@@ -10,7 +10,6 @@ use Rattle.bp_base.specs.Limits.{most_document_bytes, most_proof_lines}
 use Rattle.bp_metric.specs.Metric.{IsSheet}
 use Rattle.bp_metric.specs.Nodes.{node_count_of}
 use Rattle.bp_document.specs.declared.builder.Branch.{Branch}
-use Rattle.bp_document.specs.declared.document.Document.{Document}
 use Rattle.bp_document.specs.declared.head.Head.{Head}
 use Rattle.bp_document.specs.declared.node_line.NodeKind.{NodeKind}
 use Rattle.bp_document.specs.declared.node_line.NodeLine.{NodeLine}
@@ -21,7 +20,7 @@ use Rattle.bp_document.specs.Forms.{proof_line, end_line, IsProofCount}
 use Rattle.bp_document.specs.Nodes.{node_text}
 use Rattle.bp_document.specs.Places.{StartsThen, nodes_part, floor_part, IsHead, Follow, deepest, count_of}
 use Rattle.bp_document.specs.Faults.{IsTextOf}
-use Rattle.bp_document.specs.Told.{node_at, node_list, IsProofTold, IsToldBy}
+use Rattle.bp_document.specs.Told.{node_at, node_list, document_of, IsProofTold, IsToldBy}
 use Rattle.bp_document.specs.Built.{told}
 use Rattle.bp_document.proofs.NodeLists.{IsFine, list-closed, list-open, has_lines, keeps_ranges, follow_fine, with_child, new_branch, told_last, told_closed, told_new, told_one, parted}
 
@@ -127,10 +126,6 @@ proof_text (Some r) (Some count) ns is =
     let counted : node_count_of r ≡ count = (has_lines r 0).1 ∙ ap length is.0 ∙ sym is.1 in
     ap (λ (n : ℕ). line (codes "proof") (decimal n ∷ []) ++ node_lines r 0) counted
     ∙ ap (λ (t : List ℕ). line (codes "proof") (decimal count ∷ []) ++ t) ((has_lines r 0).0 ∙ ap (flat_map node_text) is.0)
-
--- the document of a head and nodes
-abbrev pub document_of : Head → Option Refutation → Document
-document_of H proof = record { tree = H.tree; side = H.side; bound = H.bound; points = H.points; floor = H.floor; proof = proof; sheet = H.sheet }
 
 module _ (H : Head) (ns : List NodeLine) (proof : Option Refutation) (told_proof : IsProofTold proof H.proof ns) where
   pub told_by : IsToldBy (document_of H proof) H ns

@@ -12,6 +12,7 @@ pub mod HeadSteps
 pub mod NodeSteps
 pub mod Leads
 pub mod NodeLists
+pub mod Builders
 pub mod Documents
 pub mod Scans
 pub mod Spelling
@@ -22,6 +23,7 @@ pub mod Reach
 pub mod OneRefutation
 pub mod OneAnswer
 pub mod LongLines
+pub mod ReadBytes
 pub mod Nodes
 pub mod Leaves
 mod Parts

@@ -22,9 +22,9 @@ use Rattle.bp_document.specs.Forms.{edge_text, proof_line, version_line, end_lin
 use Rattle.bp_document.specs.Nodes.{node_text}
 use Rattle.bp_document.specs.Places.{Place, AtVersion, AtSheet, AtEdges, AtEdge, AtSide, AtBound, AtPoint, AtFloor, AtProof, AtNode, AtEnd, Behind, StartsThen, side_part, points_part, floor_part, nodes_part, HasPoints, IsHead, Follow, deepest_behind, next_leaf, count_of, LeadsTo}
 use Rattle.bp_document.specs.Faults.{HasKind, IsFirstKind, order, HasLine, IsFaultAt, IsDocFault, IsTextOf, HasOneAnswer}
-use Rattle.bp_document.specs.Told.{node_list, IsProofTold}
+use Rattle.bp_document.specs.Told.{document_of, node_list, IsProofTold}
 use Rattle.bp_document.proofs.BodySteps.{no_point_lines}
-use Rattle.bp_document.proofs.Documents.{document_of, body_is}
+use Rattle.bp_document.proofs.Documents.{body_is}
 use Rattle.bp_document.proofs.NodeLists.{has_lines}
 use Rattle.bp_document.proofs.OneRefutation.{root_of, root_follows, one_refutation}
 use Rattle.bp_document.proofs.Spelling.{NoEnd}

@@ -190,7 +190,7 @@ module _ (t : List ℕ) (H : Head) (tree : IsTree H.tree) where
       (reach_points (front ++ p ∷ []) back (omega (arith, few, length-append front (p ∷ []))) (λ i d l. small (suc i) d (omega (arith, l))) one)
 
 -- the first of those that follow fits behind the ones before it
-follow_at : (most : Option ℕ) (front back : List NodeLine) (l : NodeLine) → Follow most (front ++ l ∷ back) → IsKindOfNumbers l.kind × DepthFits (deepest_behind most front) l.depth
+pub follow_at : (most : Option ℕ) (front back : List NodeLine) (l : NodeLine) → Follow most (front ++ l ∷ back) → IsKindOfNumbers l.kind × DepthFits (deepest_behind most front) l.depth
 follow_at most [] back l follow = (follow.0, follow.1)
 follow_at most (n ∷ front) back l follow = follow_at (Some (deepest n.kind n.depth)) front back l follow.2
 

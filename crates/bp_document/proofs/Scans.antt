@@ -19,7 +19,8 @@ use Rattle.bp_document.specs.Places.{AtPoint, AtFloor, Follow, next_leaf}
 use Rattle.bp_document.specs.Faults.{HasKind}
 use Rattle.bp_document.specs.Stages.{Stands, Steps, IsBeforeNodes, IsWhole, IsWithin, place_of, told_head, head_of, with_node}
 use Rattle.bp_document.specs.Scanning.{Progress, IsUnbroken, line_count, HasFed, FeedsLine, TellsHead, HasTold, IsBeforeProof, FinishesText}
-use Rattle.bp_document.proofs.Documents.{document_of, told_by, is_text, proof_of}
+use Rattle.bp_document.specs.Told.{document_of}
+use Rattle.bp_document.proofs.Documents.{told_by, is_text, proof_of}
 use Rattle.bp_document.proofs.Leads.{leads, cut_at, inside_points, inside_nodes}
 
 abbrev is_end : ℕ → ℕ

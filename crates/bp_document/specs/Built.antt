@@ -60,7 +60,10 @@ ClosesLast b b' (Err e) = Unit {0}
 
 abbrev pub Closes : Builder → ℕ → Builder → Result Unit NoMemory → Type 0
 Closes b depth b' (Ok done) =
-    KeepsNodes b b' × (length b'.branches.items ≡ min depth (length b.branches.items)) × (1 ≤ depth → b'.root ≡ b.root) × (length b.branches.items ≤ depth → b' ≡ b)
+    KeepsNodes b b'
+    × (length b'.branches.items ≡ min depth (length b.branches.items))
+    × (1 ≤ depth → b'.root ≡ b.root)
+    × (length b.branches.items ≤ depth → b'.root ≡ b.root)
 Closes b depth b' (Err e) = Unit {0}
 
 abbrev pub Finishes : Builder → Result (Option Refutation) NoMemory → Type 0

@@ -11,3 +11,4 @@ pub mod Stages
 pub mod Told
 pub mod Scanning
 pub mod Built
+pub mod Reading

@@ -10,7 +10,7 @@ use Rattle.bp_document.specs.declared.head.Head.{Head}
 use Rattle.bp_document.specs.declared.node_line.NodeLine.{NodeLine}
 use Rattle.bp_document.specs.declared.stage.Stage.{Stage}
 use Rattle.bp_document.specs.Forms.{end_line}
-use Rattle.bp_document.specs.Places.{Place, AtNode, AtEnd, Behind, Follow, IsHead, LeadsTo, StartsThen, nodes_part}
+use Rattle.bp_document.specs.Places.{Place, AtNode, AtEnd, Behind, Follow, IsHead, LeadsTo, StartsThen, nodes_part, count_of}
 use Rattle.bp_document.specs.Faults.{HasForm, IsFirstKind, IsTextOf}
 use Rattle.bp_document.specs.Stages.{Stands, IsBeforeNodes, IsWhole, told_head, with_node, GivesNode}
 use Rattle.bp_document.specs.Told.{IsToldBy}
@@ -88,6 +88,15 @@ pub record IsDocumentFed (text : List ℕ) (ns : List NodeLine) (answer : Option
 abbrev pub FinishesText : Progress → Result Unit DocFault → Type 0
 FinishesText P (Ok done) = (text : List ℕ) (ns : List NodeLine) → HasFed P text ns → IsDocumentFed text ns (told_head P.stage)
 FinishesText P (Err f) = (f.kind ≡ Cut) × ((text : List ℕ) (ns : List NodeLine) → HasFed P text ns → IsFaultBehind text [] false f)
+
+-- The whole text is that of this head, these nodes and the line `end`.
+abbrev pub IsWholeText : List ℕ → List NodeLine → Head → Type 0
+IsWholeText text ns H = StartsThen text H.sheet (nodes_part H ns ++ end_line) × IsHead H × Follow None ns × (length ns ≡ count_of H.proof)
+
+-- What the end of input gives, with the head.
+abbrev pub GivesHead : Progress → Result Head DocFault → Type 0
+GivesHead P (Ok H) = (text : List ℕ) (ns : List NodeLine) → HasFed P text ns → IsWholeText text ns H
+GivesHead P (Err f) = FinishesText P (Err f)
 
 -- longer than the line of any form
 abbrev pub IsLongLine : List ℕ → Type 0

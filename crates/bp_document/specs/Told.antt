@@ -38,3 +38,7 @@ pub record IsToldBy (D : Document) (H : Head) (ns : List NodeLine) : Type 0 wher
   pub floor : D.floor ≡ H.floor
   pub sheet : D.sheet ≡ H.sheet
   pub proof : IsProofTold D.proof H.proof ns
+
+-- the document of a head and a proof
+abbrev pub document_of : Head → Option Refutation → Document
+document_of H proof = record { tree = H.tree; side = H.side; bound = H.bound; points = H.points; floor = H.floor; proof = proof; sheet = H.sheet }

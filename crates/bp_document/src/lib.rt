@@ -16,6 +16,7 @@ mod node_line;
 mod node_step;
 mod point_step;
 mod points;
+mod read;
 mod room;
 mod scanner;
 mod stage;
@@ -28,6 +29,7 @@ pub use fault::{DocFault, DocKind, ReadDoc};
 pub use head::Head;
 pub use laws::{law_of_long_lines, law_of_one_answer};
 pub use node_line::{NodeKind, NodeLine};
+pub use read::read_document;
 pub use scanner::Scanner;
 pub use write::write_document;
 

@@ -1,6 +1,6 @@
 // Documents line by line.
 ghost use Rattle.std.specs.Prelude.{◌≡◌, ◌≢◌, [], true, All, IfOk, MatchOption, None, Some};
-ghost use Rattle.bp_document.specs.Scanning.{FeedsLine, FinishesText, HasFed, HasTold, IsUnbroken};
+ghost use Rattle.bp_document.specs.Scanning.{FeedsLine, FinishesText, GivesHead, HasFed, HasTold, IsUnbroken};
 ghost use Rattle.bp_document.specs.Stages.{told_head};
 
 use crate::room::Room;
@@ -100,6 +100,20 @@ impl Scanner {
     {
         match &self.stage {
             Stage::Behind { .. } => Ok(()),
+            _ => Err(DocFault {
+                line: self.lines + 1,
+                kind: DocKind::Cut,
+            }),
+        }
+    }
+
+    /// The head of a whole document, or what else the end of input gives.
+    pub(crate) fn into_head(self) -> Result<Head, DocFault>
+        requires { IsUnbroken self }
+        ensures { GivesHead self result }
+    {
+        match self.stage {
+            Stage::Behind { head } => Ok(head),
             _ => Err(DocFault {
                 line: self.lines + 1,
                 kind: DocKind::Cut,
