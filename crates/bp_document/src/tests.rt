@@ -1,13 +1,13 @@
 ghost use Rattle.std.specs.Prelude.{◌≡◌, ◌+◌, ◌≤◌, IfOk, IfErr};
 ghost use Rattle.bp_document.specs.Ranges.{depth_of};
 
-use crate::DocKind;
 use crate::edge_step::{add_edge, add_last_edge};
 use crate::form::{field_of, floor_form, proof_form, sheet_form};
 use crate::node::put_node;
 use crate::node_line::read_node;
 use crate::node_step::next_node;
 use crate::point_step::{leaf_at, read_point};
+use crate::{DocKind, Document};
 use bp_base::{Axis, Chain, Claim, MemSink, NoMemory, Pair, Refutation, Sheet};
 use bp_tree::Grower;
 use sqlite_items::Items;
@@ -47,6 +47,13 @@ fn split(
     children.push(second)?;
     let pair = Pair { i, j };
     Ok(Refutation::Split { pair, children })
+}
+
+fn moves<T: Send>(_: &T) {}
+
+// A document may go to another thread.
+fn crosses(document: &Document) {
+    moves(document);
 }
 
 #[test]

@@ -1,4 +1,5 @@
 mod Steps
 pub mod Trails
 mod Done
+mod OneLeast
 pub mod Fine

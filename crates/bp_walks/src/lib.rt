@@ -3,6 +3,7 @@
 
 mod cycles;
 mod judging;
+mod laws;
 mod lows;
 mod opens;
 mod orders;
@@ -13,4 +14,5 @@ mod walking;
 
 pub use cycles::begun_at_least;
 pub use judging::{Judged, judge_greatest};
+pub use laws::one_least;
 pub use walking::{cycle_on, least};

@@ -4,7 +4,7 @@ ghost use Rattle.bp_metric.specs.Chains.{HasPairsOf};
 ghost use Rattle.bp_metric.specs.Metric.{IsSheet};
 ghost use Rattle.bp_metric.specs.Samples.{is_sample, letters};
 
-use crate::{cycle_on, least};
+use crate::{cycle_on, least, one_least};
 use bp_base::{Axis, Chain, Choice, Claim, Name, Pair, Path, Sheet, Step, Tree, Walked};
 use bp_metric::Metric;
 use std::alloc::Global;
@@ -87,6 +87,7 @@ fn is_wanted(rt: &impl Abort, alloc: Global, metric: &Metric, wanted: &Wanted) -
             is_claim(rt, alloc, &claim, wanted, false)?;
         }
     }
+    one_least(metric);
     let closed = cycle_on(alloc, metric, &path, wanted.axis);
     assert_eq!(rt; closed.is_some(), wanted.xs.is_empty());
     Ok(())

@@ -210,3 +210,51 @@ fn as_from_scratch(rt: HostRuntime) -> Result<(), Fail> {
     on_sheet(&rt, alloc, &tree, Sheet::Strip { width: 14 }, 3)?;
     on_sheet(&rt, alloc, &tree, Sheet::Strip { width: 999_999 }, 4)
 }
+
+// Adds a step where it names a pair of leaves and there is room for it.
+fn put(
+    alloc: Global,
+    metric: &Metric,
+    warm: &mut Warm,
+    steps: &mut Vec<Step>,
+    step: Step,
+) -> Result<(), Fail>
+    requires metric { metric.now ≡ warm.old.metric }
+    requires same { length warm.old.path ≡ length steps.old.items }
+    ensures metric { warm.new.metric ≡ warm.old.metric }
+    ensures same { OnOk result (length warm.new.path ≡ length steps.new.items) }
+{
+    let n = metric.leaves();
+    let room = steps.len() < n as usize * (n as usize - 1) / 2;
+    if room && 1 <= step.pair.i && step.pair.i < step.pair.j && step.pair.j <= n {
+        return add(alloc, metric, warm, steps, step);
+    }
+    Err(Fail::from("no step"))
+}
+
+fn left_of(i: u64, j: u64) -> Step {
+    Step {
+        pair: Pair { i, j },
+        choice: Choice::Left,
+    }
+}
+
+#[test]
+fn two_steps_of_a_star(rt: HostRuntime) -> Result<(), Fail> {
+    let alloc = rt.alloc();
+    let tree = tree(alloc, &[0, 0, 0, 0], &[0, 1, 1, 1])?;
+    let metric = Metric::of(alloc, &tree)?;
+    let mut warm = Warm::open(alloc, &metric)?;
+    let mut steps = Vec::new(alloc);
+    put(alloc, &metric, &mut warm, &mut steps, left_of(1, 2))?;
+    put(alloc, &metric, &mut warm, &mut steps, left_of(2, 3))?;
+    is_warm(&rt, alloc, &metric, &warm, &steps)?;
+    let found = warm.least();
+    assert_eq!(rt; found.xs.as_slice(), [0, 2, 4].as_slice());
+    assert_eq!(rt; found.ys.as_slice(), [0, 0, 0].as_slice());
+    assert_eq!(rt; found.forced, 4);
+    let (axis, leaves) = shown(alloc, &found.claim)?;
+    assert_eq!(rt; axis, Axis::X);
+    assert_eq!(rt; leaves.as_slice(), [1, 2, 3].as_slice());
+    Ok(())
+}
