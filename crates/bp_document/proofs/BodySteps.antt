@@ -42,7 +42,7 @@ module _ (bytes : List ℕ) (p : Parts) where
   side_read n reads text es stands =
       let is = field_exact bytes (codes "side") (spelled_word (codes "side") refl) (Some n) reads in
       let start = stands.0 in
-      ([], ((start.0, start.1, extended text start.0 (edge_lines p.tree) (bytes ++ 10 ∷ []) (line (codes "side") (decimal n ∷ [])) start.2 is.text), stands.1, is.small, stands.2))
+      ([], (n, is), ((start.0, start.1, extended text start.0 (edge_lines p.tree) (bytes ++ 10 ∷ []) (line (codes "side") (decimal n ∷ [])) start.2 is.text), stands.1, is.small, stands.2))
 
   pub no_bound : ReadsField (codes "bound") 0 most_number (words bytes) None → FeedsStage (Stage.Bound p) bytes (Err BadForm)
   no_bound reads text es stands = bad_form AtBound bytes (λ h. h) (λ form. field_exact bytes (codes "bound") (spelled_word (codes "bound") refl) None reads form.0 form.1)
@@ -58,6 +58,7 @@ module _ (bytes : List ℕ) (p : Parts) where
       ∙ ap (λ (t : List ℕ). start.0 ++ t) (sym (append-nil (part ++ bound)))
       ∙ ap (λ (t : List ℕ). start.0 ++ ((part ++ bound) ++ t)) (sym (no_point_lines p.tree p.points stands.3.0)) in (
         [],
+        (n, is),
         (
           (start.0, start.1, here),
           record { tree = stands.1; side = stands.2; bound = is.small; points = subst (λ (P : List Point). All IsSmallPoint P) (sym stands.3.0) (All-nil IsSmallPoint) },

@@ -29,7 +29,7 @@ edges_more E es e =
     (ap (λ (t : List ℕ). flat_map edge_text es ++ t) (sym (append-nil (edge_text e))) ∙ sym (flat_map-append edge_text es (e ∷ [])))
 
 -- all edges are the lines of their tree
-edges_whole : (T : TreeValue) → IsTree T → (E : ℕ) (es : List Edge) → HasEdges T es → node_count T - 1 ≡ E → edges_part E es ≡ edge_lines T
+pub edges_whole : (T : TreeValue) → IsTree T → (E : ℕ) (es : List Edge) → HasEdges T es → node_count T - 1 ≡ E → edges_part E es ≡ edge_lines T
 unfolding edge_lines
 edges_whole T is E es has count =
     ap (λ (n : ℕ). line (codes "edges") (decimal n ∷ []) ++ flat_map edge_text es) (sym count)
@@ -43,7 +43,7 @@ module _ (G : Sheet) (count left : ℕ) (m : Memory) (bytes : List ℕ) where
       let e = fed.0 in
       let here : text ++ (bytes ++ 10 ∷ []) ≡ start.0 ++ edges_part count (es ++ e ∷ []) =
       extended text start.0 (edges_part count es) (bytes ++ 10 ∷ []) (edge_text e) start.2 fed.1.text ∙ ap (λ (t : List ℕ). start.0 ++ t) (edges_more count es e) in
-      (es ++ e ∷ [], ((start.0, start.1, here), stands.1, omega (arith, more), omega (arith, more, stands.3, length-append es (e ∷ [])), fed.3 es stands.4, growing, stands.6, stands.7))
+      (es ++ e ∷ [], (e, fed.1), ((start.0, start.1, here), stands.1, omega (arith, more), omega (arith, more, stands.3, length-append es (e ∷ [])), fed.3 es stands.4, growing, stands.6, stands.7))
 
   pub edge_refused : (T : TreeValue) (kind : DocKind) → FeedsEdge m.grower bytes T (Err kind) → 1 < left → FeedsStage (Stage.Edge G count left m) bytes (Err kind)
   edge_refused T kind fed more text es stands = fed count es stands.4 stands.1 (omega (arith, more, stands.3))
@@ -60,4 +60,4 @@ module _ (G : Sheet) (count left : ℕ) (m : Memory) (bytes : List ℕ) where
       let here : text ++ (bytes ++ 10 ∷ []) ≡ start.0 ++ edge_lines T =
       extended text start.0 (edges_part count es) (bytes ++ 10 ∷ []) (edge_text e) start.2 fed.1.text
       ∙ ap (λ (t : List ℕ). start.0 ++ t) (edges_more count es e ∙ edges_whole T fed.3 count (es ++ e ∷ []) has all) in
-      ([], ((start.0, start.1, here), fed.3, (stands.6, stands.7)))
+      ([], (e, fed.1), ((start.0, start.1, here), fed.3, (stands.6, stands.7)))

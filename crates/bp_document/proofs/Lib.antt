@@ -8,6 +8,22 @@ pub mod LineSteps
 pub mod StartSteps
 pub mod BodySteps
 pub mod EdgeStages
+pub mod HeadSteps
+pub mod NodeSteps
+pub mod Leads
+pub mod NodeLists
+pub mod Builders
+pub mod Documents
+pub mod Scans
+pub mod Spelling
+pub mod OneForm
+pub mod EdgeGoes
+pub mod Runs
+pub mod Reach
+pub mod OneRefutation
+pub mod OneAnswer
+pub mod LongLines
+pub mod ReadBytes
 pub mod Nodes
 pub mod Leaves
 mod Parts

@@ -102,7 +102,7 @@ open_line_is : (depth : ℕ) (claim : Claim) → kind_line depth (Open claim) �
 open_line_is depth (Walk axis ks) = refl
 open_line_is depth (Cycle axis ks) = refl
 
-kind_line_is : (depth : ℕ) (k : NodeKind) → kind_line depth k ≡ line (decimal depth) (kind_words k)
+pub kind_line_is : (depth : ℕ) (k : NodeKind) → kind_line depth k ≡ line (decimal depth) (kind_words k)
 kind_line_is depth (Split p) = refl
 kind_line_is depth (Closed claim) = closed_line_is depth claim
 kind_line_is depth (Open claim) = open_line_is depth claim

@@ -44,11 +44,12 @@ module _ (bytes : List ℕ) (m : Memory) where
 
   pub first_version : (n : ℕ) → n ≡ 1 → ReadsField (codes "boxpleat") 1 2 (words bytes) (Some n) → FeedsStage (Stage.Version m) bytes (Ok (Stage.Edges Square m))
   first_version n same reads text es stands =
-      ([], (inl (ap (λ (t : List ℕ). t ++ (bytes ++ 10 ∷ [])) stands.0 ∙ version_at n 1 same reads, refl), stands.1))
+      ([], inl (version_at n 1 same reads), (inl (ap (λ (t : List ℕ). t ++ (bytes ++ 10 ∷ [])) stands.0 ∙ version_at n 1 same reads, refl), stands.1))
 
   pub second_version : (n : ℕ) → (n ≡ 1 → ⊥) → ReadsField (codes "boxpleat") 1 2 (words bytes) (Some n) → FeedsStage (Stage.Version m) bytes (Ok (Stage.Sheet m))
   second_version n other reads text es stands =
-      ([], (ap (λ (t : List ℕ). t ++ (bytes ++ 10 ∷ [])) stands.0 ∙ version_at n 2 (omega (arith, other, reads.0, reads.1)) reads, stands.1))
+      let here = version_at n 2 (omega (arith, other, reads.0, reads.1)) reads in
+      ([], inr here, (ap (λ (t : List ℕ). t ++ (bytes ++ 10 ∷ [])) stands.0 ∙ here, stands.1))
 
   pub no_sheet : ReadsSheet (words bytes) None → FeedsStage (Stage.Sheet m) bytes (Err BadForm)
   no_sheet reads text es stands = bad_form AtSheet bytes (λ h. h) (λ form. sheet_exact bytes None reads form.0 form.1)
@@ -56,7 +57,7 @@ module _ (bytes : List ℕ) (m : Memory) where
   pub sheet_read : (G : Sheet) → ReadsSheet (words bytes) (Some G) → FeedsStage (Stage.Sheet m) bytes (Ok (Stage.Edges G m))
   sheet_read G reads text es stands =
       let is = sheet_exact bytes (Some G) reads in
-      ([], (inr (ap (λ (t : List ℕ). t ++ (bytes ++ 10 ∷ [])) stands.0 ∙ ap (λ (t : List ℕ). line (codes "boxpleat") (decimal 2 ∷ []) ++ t) is.text, is.sheet), stands.1))
+      ([], (G, is), (inr (ap (λ (t : List ℕ). t ++ (bytes ++ 10 ∷ [])) stands.0 ∙ ap (λ (t : List ℕ). line (codes "boxpleat") (decimal 2 ∷ []) ++ t) is.text, is.sheet), stands.1))
 
   module _ (G : Sheet) where
     pub no_count : ReadsField (codes "edges") 2 (most_nodes - 1) (words bytes) None → FeedsStage (Stage.Edges G m) bytes (Err BadForm)
@@ -68,6 +69,7 @@ module _ (bytes : List ℕ) (m : Memory) where
         let here = field_line (codes "edges") bytes (spelled_word (codes "edges") refl) 2 (most_nodes - 1) (omega arith) E reads in
         let fresh = stands.1 in (
           [],
+          (E, record { text = here; small = omega (arith, reads.1) }, (reads.0, omega (arith, reads.1))),
           (
             (text, stands.0, ap (λ (t : List ℕ). text ++ t) (here ∙ sym (append-nil (line (codes "edges") (decimal E ∷ []))))),
             (reads.0, omega (arith, reads.1)),

@@ -143,3 +143,15 @@ abbrev pub ReadsDocument : List ℕ → Result Document ReadDoc → Type 0
 ReadsDocument bytes (Ok D) = IsTextOf bytes D
 ReadsDocument bytes (Err (Fault f)) = IsDocFault bytes f × ((D : Document) → IsTextOf bytes D → ⊥)
 ReadsDocument bytes (Err NoMemory) = Unit
+
+-- No other document and no other fault is that of the bytes.
+abbrev pub IsOnlyAnswer : List ℕ → Result Document ReadDoc → Type 0
+IsOnlyAnswer bytes (Ok D) = ((E : Document) → IsTextOf bytes E → E ≡ D) × ((f : DocFault) → IsDocFault bytes f → ⊥)
+IsOnlyAnswer bytes (Err (Fault f)) = (g : DocFault) → IsDocFault bytes g → g ≡ f
+IsOnlyAnswer bytes (Err NoMemory) = Unit
+
+-- Bytes are the text of at most one document, or have at most one first fault, and not both.
+pub record HasOneAnswer (bytes : List ℕ) : Type 0 where
+  pub document : (D E : Document) → IsTextOf bytes D → IsTextOf bytes E → D ≡ E
+  pub either : (D : Document) (f : DocFault) → IsTextOf bytes D → IsDocFault bytes f → ⊥
+  pub fault : (f g : DocFault) → IsDocFault bytes f → IsDocFault bytes g → f ≡ g

@@ -8,3 +8,7 @@ pub mod FormWords
 pub mod Places
 pub mod Faults
 pub mod Stages
+pub mod Told
+pub mod Scanning
+pub mod Built
+pub mod Reading

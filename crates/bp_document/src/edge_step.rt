@@ -2,7 +2,7 @@
 ghost use Rattle.std.specs.Prelude.{OnOk};
 ghost use Rattle.bp_tree.specs.Edges.{IsGrowing};
 ghost use Rattle.bp_document.specs.Faults.{FeedsEdge, FeedsLastEdge};
-ghost use Rattle.bp_document.specs.Stages.{FeedsStage};
+ghost use Rattle.bp_document.specs.Stages.{FeedsStage, IsOneMore};
 ghost use Rattle.bp_document.specs.declared.stage.Stage.{Stage};
 
 use crate::DocKind;
@@ -48,7 +48,8 @@ pub fn feed_edge(
     memory: Memory,
     bytes: &[u8],
 ) -> Result<Stage, DocKind>
-    ensures { FeedsStage (Stage.Edge sheet count left memory) bytes.now result }
+    ensures stage { FeedsStage (Stage.Edge sheet count left memory) bytes.now result }
+    ensures within { IsOneMore (Stage.Edge sheet count left memory) result }
 {
     let Memory {
         grower,

@@ -1,11 +1,14 @@
 // Node lines, each at a depth that fits behind the line before it.
-ghost use Rattle.std.specs.Prelude.{◌≡◌, ◌≤◌, ◌↔◌, IsTrue};
+ghost use Rattle.std.specs.Prelude.{◌≡◌, ◌≤◌, ◌↔◌, true, IsTrue};
 ghost use Rattle.bp_base.specs.Limits.{most_number};
 ghost use Rattle.bp_document.specs.Faults.{FeedsNode};
 ghost use Rattle.bp_document.specs.Places.{DepthFits, deepest};
+ghost use Rattle.bp_document.specs.Stages.{Steps};
+ghost use Rattle.bp_document.specs.declared.stage.Stage.{Stage};
 
 use crate::node_line::read_node;
-use crate::{DocKind, NodeKind, NodeLine};
+use crate::stage::{Fall, Stage, Step};
+use crate::{DocKind, Head, NodeKind, NodeLine};
 use bp_base::MOST_STEPS;
 use std::alloc::Global;
 
@@ -41,4 +44,50 @@ pub fn deepest(node: &NodeLine) -> u64
         NodeKind::Closed { .. } => node.depth,
         NodeKind::Open { .. } => node.depth,
     }
+}
+
+/// A node line, or where none is left the end.
+pub fn step_node(
+    alloc: Global,
+    head: Head,
+    left: u64,
+    most: Option<u64>,
+    bytes: &[u8],
+) -> Result<Step, Fall>
+    ensures { Steps (Stage.Nodes head left most) bytes.now true result }
+{
+    if left == 0 {
+        return step_end(head, bytes, most);
+    }
+    match next_node(alloc, most, bytes) {
+        Err(kind) => Err(Fall {
+            head: Some(head),
+            kind,
+        }),
+        Ok(node) => {
+            let most = Some(deepest(&node));
+            let left = left - 1;
+            Ok(Step {
+                stage: Stage::Nodes { head, left, most },
+                node: Some(node),
+            })
+        }
+    }
+}
+
+// The line `end`.
+fn step_end(head: Head, bytes: &[u8], most: Option<u64>) -> Result<Step, Fall>
+    ensures { Steps (Stage.Nodes head 0 most) bytes.now true result }
+{
+    let _ = most;
+    if bytes == b"end".as_slice() {
+        return Ok(Step {
+            stage: Stage::Behind { head },
+            node: None,
+        });
+    }
+    Err(Fall {
+        head: Some(head),
+        kind: DocKind::BadForm,
+    })
 }

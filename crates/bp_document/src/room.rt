@@ -1,7 +1,8 @@
-ghost use Rattle.std.specs.Prelude.{◌≡◌, ◌<◌, [], ◌∷◌, ◌++◌, length, IfOk};
+ghost use Rattle.std.specs.Prelude.{◌≡◌, ◌<◌, ◌≤◌, [], ◌∷◌, ◌++◌, length, IfOk};
+ghost use Rattle.bp_base.specs.Chain.{IsChainList};
 ghost use Rattle.bp_base.specs.Limits.{most_leaves};
 
-use bp_base::{MOST_LEAVES, NoMemory, Sequence};
+use bp_base::{Chain, MOST_LEAVES, NoMemory, Sequence};
 use std::alloc::Global;
 use std::marker::Model;
 
@@ -12,7 +13,7 @@ pub struct Room<T> {
 }
 
 impl<T> Model for Room<T> {
-    ghost use Rattle.std.specs.Prelude.{◌≤◌, List, vec_capacity};
+    ghost use Rattle.std.specs.Prelude.{◌≤◌, List, length, vec_capacity};
     ghost use Rattle.std.specs.Coded.{coded_list};
     ghost use Rattle.bp_base.specs.Limits.{most_leaves};
 
@@ -22,7 +23,7 @@ impl<T> Model for Room<T> {
 
     ghost view = { λ r. r.items.items };
 
-    ghost invariant = { λ r. most_leaves ≤ vec_capacity r.items };
+    ghost invariant = { λ r. (most_leaves ≤ vec_capacity r.items) × (length r.items.items ≤ most_leaves) };
 }
 
 impl<T: Drop> Room<T> {
@@ -41,7 +42,8 @@ impl<T: Drop> Room<T> {
     }
 
     pub fn len(&self) -> usize
-        ensures { result ≡ length self.now }
+        ensures count { result ≡ length self.now }
+        ensures few { length self.now ≤ most_leaves }
     {
         self.items.len()
     }
@@ -52,5 +54,18 @@ impl<T: Drop> Room<T> {
     {
         let Room { items } = self;
         Sequence::from_vec(items)
+    }
+}
+
+impl Room<u64> {
+    /// Puts a chain's numbers in the place of the items.
+    pub fn fill(&mut self, chain: &Chain)
+        ensures value { self.new ≡ chain.now }
+        ensures chain { IsChainList chain.now }
+    {
+        self.items.clear();
+        for k in 0..chain.len() {
+            self.items.push_reserved(chain.at(k));
+        }
     }
 }

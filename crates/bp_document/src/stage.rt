@@ -1,5 +1,5 @@
-use crate::Head;
 use crate::room::Room;
+use crate::{DocKind, Head, NodeLine};
 use bp_base::{Point, Sheet, Tree};
 use bp_tree::Grower;
 
@@ -66,4 +66,22 @@ pub enum Stage {
     Behind {
         head: Head,
     },
+    /// Some line had a fault. The head is kept, where it was told.
+    Broken {
+        told: Option<Head>,
+    },
+}
+
+/// The next stage, and the node where the line was a node's.
+#[derive(Drop)]
+pub struct Step {
+    pub stage: Stage,
+    pub node: Option<NodeLine>,
+}
+
+/// The fault of a line, and the head where it was told.
+#[derive(Drop)]
+pub struct Fall {
+    pub head: Option<Head>,
+    pub kind: DocKind,
 }

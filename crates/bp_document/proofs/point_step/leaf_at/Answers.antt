@@ -4,8 +4,8 @@ use Rattle.bp_document.proofs.LineSteps.{leaf_found, leaf_counted, none_counted}
 use Rattle.bp_document.proofs.point_step.leaf_at.Goals as goal
 use Rattle.bp_document.proofs.point_step.leaf_at.Goals.{then-not-has_child+else-leaves-place, else-not-has_child}
 
-pub returns-then-leaves-place : goal.returns-then-leaves-place
-returns-then-leaves-place c =
+pub returns-then-leaves-place-clause-place : goal.returns-then-leaves-place-clause-place
+returns-then-leaves-place-clause-place c =
     let within : c.loop-node.node < node_count c.args.tree.now = omega (arith, c.loop-node-test.true, ap length c.parents.ensures.value) in
     let f = leaf_found c.args.tree.now c.loop-node.node c.args.place within (sym c.has_child.ensures ∙ c.if-not-has_child.true) (sym c.loop-node.invariant.0 ∙ c.if-leaves-place.true) in
     (within, f.0, f.1)
