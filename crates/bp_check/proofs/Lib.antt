@@ -1,1 +1,5 @@
 mod Worked
+pub mod Tested
+pub mod Joined
+pub mod Kept
+pub mod Claims

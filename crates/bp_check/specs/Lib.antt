@@ -1,3 +1,7 @@
 pub mod Checks
 pub mod Reasons
 pub mod Written
+pub mod Tests
+pub mod Found
+pub mod Lines
+pub mod Stack
