@@ -10,6 +10,7 @@ use Rattle.bp_check.specs.declared.found.Found.{Found}
 use Rattle.bp_check.specs.declared.found.Found.TheVariants.{Sound, WrongChain, WrongSplit}
 use Rattle.bp_check.specs.Tests.{claim_passes, may_split}
 use Rattle.bp_check.specs.Found.{joined, found_claim, judged, found_of}
+use Rattle.bp_check.specs.Stack.{is_wrong}
 
 min_assoc : (a b c : ℕ) → min (min a b) c ≡ min a (min b c)
 min_assoc a b c = omega arith
@@ -93,7 +94,7 @@ IsFrom k (Sound w) = Unit {0}
 IsFrom k (WrongChain a) = k ≤ a
 IsFrom k (WrongSplit a) = k ≤ a
 
-joined_from : (k : ℕ) (f g : Found) → IsFrom k f → IsFrom k g → IsFrom k (joined f g)
+pub joined_from : (k : ℕ) (f g : Found) → IsFrom k f → IsFrom k g → IsFrom k (joined f g)
 joined_from k (Sound v) (Sound w) f g = tt
 joined_from k (Sound v) (WrongChain b) f g = g
 joined_from k (Sound v) (WrongSplit b) f g = g
@@ -104,7 +105,7 @@ joined_from k (WrongSplit a) (Sound w) f g = f
 joined_from k (WrongSplit a) (WrongChain b) f g = f
 joined_from k (WrongSplit a) (WrongSplit b) f g = omega (arith, f, g)
 
-from_less : (k l : ℕ) (f : Found) → k ≤ l → IsFrom l f → IsFrom k f
+pub from_less : (k l : ℕ) (f : Found) → k ≤ l → IsFrom l f → IsFrom k f
 from_less k l (Sound w) less is = tt
 from_less k l (WrongChain a) less is = omega (arith, less, is)
 from_less k l (WrongSplit a) less is = omega (arith, less, is)
@@ -118,7 +119,7 @@ module _ (T : TreeValue) (G : Sheet) where
   claim_from : (k : ℕ) (path : List Step) (claim : Claim) → IsFrom k (found_claim T G k path claim)
   claim_from k path claim = elim (claim_passes (leaf_count T) path claim) as (λ b. IsFrom k (cond b (Sound (counted T G claim)) (WrongChain k))) [ true ↦ tt | false ↦ omega arith ]
 
-  judged_from : (k : ℕ) (path : List Step) (part : Part) → IsFrom k (judged T G k path part)
+  pub judged_from : (k : ℕ) (path : List Step) (part : Part) → IsFrom k (judged T G k path part)
   judged_from k path (SplitOf p children) = elim (may_split (leaf_count T) path p && (children == length (allowed T G p))) as (λ b. IsFrom k (cond b (Sound None) (WrongSplit k))) [ true ↦ tt | false ↦ omega arith ]
   judged_from k path (ClosedBy claim) = claim_from k path claim
   judged_from k path (OpenBy claim) = claim_from k path claim
@@ -134,3 +135,54 @@ module _ (T : TreeValue) (G : Sheet) where
   found_append k m (x ∷ xs) ys is =
       ap (joined (judged T G k x.path x.part)) (found_append (k + 1) m xs ys (omega (arith, is)))
       ∙ sym (joined_assoc (judged T G k x.path x.part) (found_of T G (k + 1) xs) (found_of T G m ys))
+
+-- a bad split that it names is numbered less than m
+abbrev pub IsBefore : ℕ → Found → Type 0
+IsBefore m (Sound w) = Unit {0}
+IsBefore m (WrongChain a) = Unit {0}
+IsBefore m (WrongSplit a) = a < m
+
+pub joined_before : (m : ℕ) (f g : Found) → IsBefore m f → IsBefore m g → IsBefore m (joined f g)
+joined_before m (Sound v) (Sound w) f g = tt
+joined_before m (Sound v) (WrongChain b) f g = tt
+joined_before m (Sound v) (WrongSplit b) f g = g
+joined_before m (WrongChain a) (Sound w) f g = tt
+joined_before m (WrongChain a) (WrongChain b) f g = tt
+joined_before m (WrongChain a) (WrongSplit b) f g = g
+joined_before m (WrongSplit a) (Sound w) f g = f
+joined_before m (WrongSplit a) (WrongChain b) f g = f
+joined_before m (WrongSplit a) (WrongSplit b) f g = omega (arith, f, g)
+
+pub before_more : (m l : ℕ) (f : Found) → m ≤ l → IsBefore m f → IsBefore l f
+before_more m l (Sound w) less is = tt
+before_more m l (WrongChain a) less is = tt
+before_more m l (WrongSplit a) less is = omega (arith, less, is)
+
+-- what is joined is sound only where the first is
+pub sound_first : (f g : Found) → is_wrong (joined f g) ≡ false → is_wrong f ≡ false
+sound_first (Sound v) g is = refl
+sound_first (WrongChain a) g is = refl
+sound_first (WrongSplit a) (Sound w) is = is
+sound_first (WrongSplit a) (WrongChain b) is = is
+sound_first (WrongSplit a) (WrongSplit b) is = is
+
+pub wrong_second : (f : Found) (k : ℕ) → is_wrong (joined f (WrongSplit k)) ≡ true
+wrong_second (Sound v) k = refl
+wrong_second (WrongChain a) k = refl
+wrong_second (WrongSplit a) k = refl
+
+module _ (T : TreeValue) (G : Sheet) where
+  claim_before : (k : ℕ) (path : List Step) (claim : Claim) → IsBefore (k + 1) (found_claim T G k path claim)
+  claim_before k path claim = elim (claim_passes (leaf_count T) path claim) as (λ b. IsBefore (k + 1) (cond b (Sound (counted T G claim)) (WrongChain k))) [ true ↦ tt | false ↦ tt ]
+
+  judged_before : (k : ℕ) (path : List Step) (part : Part) → IsBefore (k + 1) (judged T G k path part)
+  judged_before k path (SplitOf p children) = elim (may_split (leaf_count T) path p && (children == length (allowed T G p))) as (λ b. IsBefore (k + 1) (cond b (Sound None) (WrongSplit k))) [ true ↦ tt | false ↦ omega arith ]
+  judged_before k path (ClosedBy claim) = claim_before k path claim
+  judged_before k path (OpenBy claim) = claim_before k path claim
+
+  pub found_before : (k : ℕ) (nodes : List Node) → IsBefore (k + length nodes) (found_of T G k nodes)
+  found_before k [] = tt
+  found_before k (node ∷ nodes) =
+      joined_before (k + length (node ∷ nodes)) (judged T G k node.path node.part) (found_of T G (k + 1) nodes)
+      (before_more (k + 1) (k + length (node ∷ nodes)) (judged T G k node.path node.part) (omega arith) (judged_before k node.path node.part))
+      (before_more (k + 1 + length nodes) (k + length (node ∷ nodes)) (found_of T G (k + 1) nodes) (omega arith) (found_before (k + 1) nodes))

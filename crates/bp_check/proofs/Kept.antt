@@ -78,14 +78,14 @@ child_seen (x ∷ y ∷ splits) most all (suc k) d less =
 pub small_pair : (n : ℕ) (p : Pair) → n ≤ most_leaves → IsPairOf n p → IsPairOf most_leaves p
 small_pair n p few is = (is.0, is.1, omega (arith, is.2, few))
 
-cases_bool : (b : Bool) → (b ≡ true) ⊎ (b ≡ false)
+pub cases_bool : (b : Bool) → (b ≡ true) ⊎ (b ≡ false)
 cases_bool true = inl refl
 cases_bool false = inr refl
 
-eqb-is : (a b : ℕ) → a ≡ b → eqb a b ≡ true
+pub eqb-is : (a b : ℕ) → a ≡ b → eqb a b ≡ true
 eqb-is a b is = (Decides-eqb a b).1 is
 
-eqb-not : (a b : ℕ) → (a ≡ b → ⊥) → eqb a b ≡ false
+pub eqb-not : (a b : ℕ) → (a ≡ b → ⊥) → eqb a b ≡ false
 eqb-not a b not = elim (cases_bool (eqb a b)) [ | inl is ↦ absurd (not ((Decides-eqb a b).0 is)) | inr is ↦ is ]
 
 module _ (T : TreeValue) (G : Sheet) where

@@ -3,3 +3,5 @@ pub mod Tested
 pub mod Joined
 pub mod Kept
 pub mod Claims
+pub mod Reading
+pub mod Walking

@@ -5,3 +5,4 @@ pub mod Tests
 pub mod Found
 pub mod Lines
 pub mod Stack
+pub mod Walk

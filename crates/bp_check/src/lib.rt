@@ -4,5 +4,6 @@
 mod found;
 mod stack;
 mod verdict;
+mod walk;
 
 pub use verdict::{Reason, Verdict};
