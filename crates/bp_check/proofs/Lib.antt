@@ -5,3 +5,4 @@ pub mod Kept
 pub mod Claims
 pub mod Reading
 pub mod Walking
+pub mod Judging

@@ -6,3 +6,4 @@ pub mod Found
 pub mod Lines
 pub mod Stack
 pub mod Walk
+pub mod Verdicts
