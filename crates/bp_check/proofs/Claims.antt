@@ -1,9 +1,7 @@
 -- What is found of a claim.
-use Rattle.std.proofs.Common.{◌≡◌, ◌∙◌, ℕ, ◌+◌, ◌<◌, ◌≤◌, Bool, true, false, ◌||◌, cond, List, length, take, get_or, All, sym, ap, refl}
+use Rattle.std.proofs.Common.{◌≡◌, ◌∙◌, ℕ, ◌+◌, ◌<◌, Bool, true, false, ◌||◌, cond, List, length, take, get_or, All, ap, refl}
 use Rattle.std.specs.List.{list_any}
 use Rattle.std.proofs.lemmas.List.Folds.{list_any_more}
-use Rattle.std.specs.Prelude.{IsTrue}
-use Rattle.std.proofs.lemmas.Bool.{true≢false}
 use Rattle.bp_base.specs.declared.point.Sheet.{Sheet}
 use Rattle.bp_base.specs.declared.path.Step.{Step}
 use Rattle.bp_base.specs.declared.chain.Claim.{Claim}

@@ -1,9 +1,9 @@
 -- What is found of a refutation's nodes: the least bad split, the least bad chain, or that it fits and what it weighs.
-use Rattle.std.proofs.Common.{◌≡◌, ◌==◌, ◌&&◌, ◌⊎◌, ◌↔◌, inl, inr, ℕ, zero, suc, ◌+◌, ◌-◌, ◌<◌, ◌≤◌, min, Bool, true, false, cond, eqb, List, [], ◌∷◌, ◌++◌, length, map, Option, None, Some, slice_get, refl, sym, ap, ◌∙◌, subst, arith, length-append}
+use Rattle.std.proofs.Common.{◌≡◌, ◌==◌, ◌&&◌, ◌⊎◌, inl, inr, ℕ, zero, suc, ◌+◌, ◌<◌, Bool, true, false, cond, List, [], ◌∷◌, ◌++◌, length, map, Option, None, Some, refl, sym, ap, ◌∙◌, subst, arith}
 use Rattle.std.specs.List.{flat_map}
 use Rattle.std.proofs.lemmas.Bool.{true≢false}
 use Rattle.std.proofs.lemmas.Bool.Decides.{Decides-eqb}
-use Rattle.std.proofs.lemmas.List.{length-map, map-append}
+use Rattle.std.proofs.lemmas.List.{map-append}
 use Rattle.std.proofs.lemmas.Option.{none-some}
 use Rattle.bp_base.specs.declared.path.Choice.{Choice}
 use Rattle.bp_base.specs.declared.path.Choice.TheVariants.{Left}
@@ -27,11 +27,11 @@ use Rattle.bp_check.specs.Tests.{claim_passes, may_split}
 use Rattle.bp_check.specs.Found.{joined, found_claim, judged, found_of, found_proof}
 use Rattle.bp_check.specs.Checks.{ProofFits}
 use Rattle.bp_check.specs.Reasons.{IsLeast, IsBadSplit, IsBadChain, HasAt, HasBadSplit, HasBadChain}
-use Rattle.bp_check.specs.Verdicts.{weight_of, IsFoundOf}
+use Rattle.bp_check.specs.Verdicts.{IsFoundOf}
 use Rattle.bp_check.proofs.Tested.{claim_is, split_is}
 use Rattle.bp_check.proofs.Joined.{IsFrom, split_stays, found_from}
 use Rattle.bp_check.proofs.Claims.{claim_sound, claim_wrong}
-use Rattle.bp_check.proofs.Kept.{cases_bool, eqb-is, eqb-not}
+use Rattle.bp_check.proofs.Kept.{cases_bool, eqb-is}
 use Rattle.bp_check.proofs.Reading.{nodes_from, nodes-whole, nodes-split, nodes-closed, nodes-open}
 
 module _ (T : TreeValue) (G : Sheet) where
@@ -87,8 +87,8 @@ module _ (T : TreeValue) (G : Sheet) where
           | inr other ↦ bad_split (inr (λ same. true≢false (sym (eqb-is children count same) ∙ other))) (ap (λ (a : Bool). own a (children == count)) is ∙ ap (own true) other)
         ]
       ]
-  judging k path (ClosedBy claim) = elim (claim_judged k path claim) [ | inl (holds, is) ↦ sound_node holds is | inr (not, is) ↦ bad_chain (λ bad. bad) not is ]
-  judging k path (OpenBy claim) = elim (claim_judged k path claim) [ | inl (holds, is) ↦ sound_node holds is | inr (not, is) ↦ bad_chain (λ bad. bad) not is ]
+  judging k path (ClosedBy claim) = elim (claim_judged k path claim) [ inl (holds, is) ↦ sound_node holds is | inr (not, is) ↦ bad_chain (λ bad. bad) not is ]
+  judging k path (OpenBy claim) = elim (claim_judged k path claim) [ inl (holds, is) ↦ sound_node holds is | inr (not, is) ↦ bad_chain (λ bad. bad) not is ]
 
   abbrev AllGood : List Node → Type 0
   AllGood [] = Unit {0}
@@ -234,24 +234,24 @@ module _ (T : TreeValue) (G : Sheet) where
   split_known : (p : Pair) (rs : List Known) → IsKnown (Split p (known rs))
   split_known p rs = record {
     fits_good = λ path fits.
-    let both : CanSplit T path p × EachFits (Fits T G) path p (allowed T G p) (known rs) = coe 0 1 (i. fits-split T G p (known rs) path i) fits in
-    let each = each_good path p (allowed T G p) rs both.1 in
-    subst AllGood (sym (nodes-split T G p (known rs) path)) ((both.0, each.0), each.1);
+        let both : CanSplit T path p × EachFits (Fits T G) path p (allowed T G p) (known rs) = coe 0 1 (i. fits-split T G p (known rs) path i) fits in
+        let each = each_good path p (allowed T G p) rs both.1 in
+        subst AllGood (sym (nodes-split T G p (known rs) path)) ((both.0, each.0), each.1);
     good_fits = λ path all.
-    let own = subst AllGood (nodes-split T G p (known rs) path) all in
-    let both : CanSplit T path p × EachFits (Fits T G) path p (allowed T G p) (known rs) = (own.0.0, each_fits path p (allowed T G p) rs own.0.1 own.1) in
-    coe 0 1 (i. sym (fits-split T G p (known rs) path) i) both;
+        let own = subst AllGood (nodes-split T G p (known rs) path) all in
+        let both : CanSplit T path p × EachFits (Fits T G) path p (allowed T G p) (known rs) = (own.0.0, each_fits path p (allowed T G p) rs own.0.1 own.1) in
+        coe 0 1 (i. sym (fits-split T G p (known rs) path) i) both;
     same_parts = λ path.
-    ap parts (nodes-split T G p (known rs) path)
-    ∙ ap (λ (ps : List Part). SplitOf p (length (known rs)) ∷ ps) (each_part path p (allowed T G p) rs)
-    ∙ sym (parts-split p (known rs));
+        ap parts (nodes-split T G p (known rs) path)
+        ∙ ap (λ (ps : List Part). SplitOf p (length (known rs)) ∷ ps) (each_part path p (allowed T G p) rs)
+        ∙ sym (parts-split p (known rs));
   }
 
   closed_known : (claim : Claim) → IsKnown (Closed claim)
   closed_known claim = record {
     fits_good = λ path fits.
-    let holds : ClaimHolds (leaf_count T) path claim = coe 0 1 (i. fits-closed T G claim path i) fits in
-    subst AllGood (sym (nodes-closed T G claim path)) (holds, tt);
+        let holds : ClaimHolds (leaf_count T) path claim = coe 0 1 (i. fits-closed T G claim path i) fits in
+        subst AllGood (sym (nodes-closed T G claim path)) (holds, tt);
     good_fits = λ path all. coe 0 1 (i. sym (fits-closed T G claim path) i) (subst AllGood (nodes-closed T G claim path) all).0;
     same_parts = λ path. ap parts (nodes-closed T G claim path) ∙ sym (parts-closed claim);
   }
@@ -259,8 +259,8 @@ module _ (T : TreeValue) (G : Sheet) where
   open_known : (claim : Claim) → IsKnown (Open claim)
   open_known claim = record {
     fits_good = λ path fits.
-    let holds : ClaimHolds (leaf_count T) path claim = coe 0 1 (i. fits-open T G claim path i) fits in
-    subst AllGood (sym (nodes-open T G claim path)) (holds, tt);
+        let holds : ClaimHolds (leaf_count T) path claim = coe 0 1 (i. fits-open T G claim path i) fits in
+        subst AllGood (sym (nodes-open T G claim path)) (holds, tt);
     good_fits = λ path all. coe 0 1 (i. sym (fits-open T G claim path) i) (subst AllGood (nodes-open T G claim path) all).0;
     same_parts = λ path. ap parts (nodes-open T G claim path) ∙ sym (parts-open claim);
   }

@@ -1,7 +1,7 @@
 -- What the stack keeps while splits are closed, entered and opened.
-use Rattle.std.proofs.Common.{◌≡◌, ◌≢◌, inl, inr, ℕ, zero, suc, ◌+◌, ◌-◌, ◌<◌, ◌≤◌, ◌⊎◌, Option, None, Bool, true, false, cond, eqb, not, ◌&&◌, List, [], ◌∷◌, ◌++◌, length, get_or, map, take, drop, All, AllPairs, refl, sym, ap, ◌∙◌, subst, arith, length-append}
+use Rattle.std.proofs.Common.{◌≡◌, ◌≢◌, inl, inr, ℕ, zero, suc, ◌+◌, ◌-◌, ◌<◌, ◌≤◌, ◌⊎◌, None, Bool, true, false, cond, eqb, not, ◌&&◌, List, [], ◌∷◌, ◌++◌, length, get_or, map, take, drop, All, AllPairs, refl, sym, ap, ◌∙◌, subst, arith, length-append}
 use Rattle.std.proofs.lemmas.Bool.Decides.{Decides-eqb}
-use Rattle.std.proofs.lemmas.List.{length-map, length-take, map-append, take-map, get_or-take, get_or_default, get_or_push, get_or_append_left, take_at, drop_at, take_all, drop_all, take-take, append-nil}
+use Rattle.std.proofs.lemmas.List.{length-map, length-take, map-append, take-map, get_or-take, get_or_default, get_or_push, take_at, drop_at, take_all, drop_all, take-take}
 use Rattle.std.proofs.lemmas.List.Elements.{All-map, All-push}
 use Rattle.std.proofs.lemmas.List.Quantifiers.{all_pairs_push}
 use Rattle.std.proofs.Math.ListN.{get_or-map}
@@ -14,7 +14,7 @@ use Rattle.bp_base.specs.Path.{IsPairOf}
 use Rattle.bp_base.specs.Tree.{TreeValue, IsTree, leaf_count}
 use Rattle.bp_metric.specs.Refutation.{IsOnPath}
 use Rattle.bp_metric.proofs.Lows.{few_leaves}
-use Rattle.bp_pairs.specs.Numbers.{pair_number, pair_count}
+use Rattle.bp_pairs.specs.Numbers.{pair_number}
 use Rattle.bp_pairs.proofs.PairNumbers.{number_below, one_pair}
 use Rattle.bp_check.specs.declared.found.Found.{Found}
 use Rattle.bp_check.specs.declared.found.Found.TheVariants.{Sound, WrongSplit}
@@ -22,7 +22,7 @@ use Rattle.bp_check.specs.declared.stack.OpenSplit.{OpenSplit}
 use Rattle.bp_check.specs.declared.stack.Stack.{Stack}
 use Rattle.bp_check.specs.Tests.{may_split}
 use Rattle.bp_check.specs.Found.{joined}
-use Rattle.bp_check.specs.Stack.{step_of, path_of, stack_of, found_count, found_counts, closed, entered, splits_entered, one_more, with_child, opened, pairs_of, is_wrong, with_split, joined_claim, with_claim, KeepsWithin}
+use Rattle.bp_check.specs.Stack.{step_of, path_of, stack_of, found_count, found_counts, closed, entered, one_more, with_child, opened, pairs_of, is_wrong, with_split, joined_claim, with_claim, KeepsWithin}
 use Rattle.bp_check.proofs.Tested.{split_is}
 use Rattle.bp_check.proofs.Joined.{joined_none, none_joined, joined_comm, joined_assoc}
 
@@ -40,11 +40,11 @@ few_pairs pairs n few are differ =
     let at : (k d : ℕ) → k < length pairs → get_or (map number pairs) k d ≡ number (get_or pairs k no_pair) = λ k d less. get_or_default (map number pairs) k d (number no_pair) (omega (arith, length-map pairs number, less)) ∙ get_or-map number pairs k no_pair in
     let within : All (λ i. (1 ≤ i) × (i ≤ 496)) (map number pairs) = All-map (λ i. (1 ≤ i) × (i ≤ 496)) number pairs (λ k d less. (omega arith, omega (arith, number_below most_leaves (get_or pairs k d) (small k d less)))) in
     let apart : AllPairs (λ a b. a ≢ b) (map number pairs) = λ k l d less in_list same. (
-      let l_less : l < length pairs = omega (arith, in_list, length-map pairs number) in
-      let k_less : k < length pairs = omega (arith, less, l_less) in
-      differ k l no_pair less l_less
-      (one_pair most_leaves (get_or pairs k no_pair) (get_or pairs l no_pair) (small k no_pair k_less) (small l no_pair l_less)
-      (omega (arith, same, at k d k_less, at l d l_less))))
+    let l_less : l < length pairs = omega (arith, in_list, length-map pairs number) in
+    let k_less : k < length pairs = omega (arith, less, l_less) in
+    differ k l no_pair less l_less
+    (one_pair most_leaves (get_or pairs k no_pair) (get_or pairs l no_pair) (small k no_pair k_less) (small l no_pair l_less)
+    (omega (arith, same, at k d k_less, at l d l_less))))
     in omega (arith, few_leaves 496 (map number pairs) within apart, length-map pairs number)
 
 pub last_is : {X : Type 0} (xs ys : List X) (x y : X) → xs ++ x ∷ [] ≡ ys ++ y ∷ [] → xs ≡ ys
@@ -86,7 +86,7 @@ pub eqb-is : (a b : ℕ) → a ≡ b → eqb a b ≡ true
 eqb-is a b is = (Decides-eqb a b).1 is
 
 pub eqb-not : (a b : ℕ) → (a ≡ b → ⊥) → eqb a b ≡ false
-eqb-not a b not = elim (cases_bool (eqb a b)) [ | inl is ↦ absurd (not ((Decides-eqb a b).0 is)) | inr is ↦ is ]
+eqb-not a b not = elim (cases_bool (eqb a b)) [ inl is ↦ absurd (not ((Decides-eqb a b).0 is)) | inr is ↦ is ]
 
 module _ (T : TreeValue) (G : Sheet) where
   pub same_stack : (N : Stack) (splits : List OpenSplit) (count : ℕ) (found : Found) → N.path ≡ path_of T G splits → N.splits ≡ splits → N.count ≡ count → N.found ≡ found → N ≡ stack_of T G splits count found

@@ -6,3 +6,5 @@ pub mod Claims
 pub mod Reading
 pub mod Walking
 pub mod Judging
+pub mod Reasoning
+pub mod Right

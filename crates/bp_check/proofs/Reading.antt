@@ -1,5 +1,5 @@
 -- What the stack finds of a refutation's lines is what is found of its nodes, each at its path.
-use Rattle.std.proofs.Common.{◌≡◌, ◌==◌, ◌&&◌, ◌⊎◌, inl, inr, ℕ, zero, suc, ◌+◌, ◌-◌, ◌<◌, ◌≤◌, Bool, true, false, cond, eqb, not, List, [], ◌∷◌, ◌++◌, length, get_or, map, drop, None, refl, sym, ap, ◌∙◌, subst, arith, length-append}
+use Rattle.std.proofs.Common.{◌≡◌, ◌==◌, ◌&&◌, inl, inr, ℕ, zero, suc, ◌+◌, ◌-◌, ◌≤◌, Bool, true, false, cond, not, List, [], ◌∷◌, ◌++◌, length, get_or, map, drop, None, refl, sym, ap, ◌∙◌, subst, arith, length-append}
 use Rattle.std.specs.List.{flat_map}
 use Rattle.std.proofs.lemmas.Bool.{true≢false}
 use Rattle.std.proofs.lemmas.List.{length-map, map-append}
@@ -16,8 +16,7 @@ use Rattle.bp_base.specs.declared.refutation.Refutation.TheFolds.{map-Refutation
 use Rattle.bp_base.specs.Tree.{TreeValue, leaf_count}
 use Rattle.bp_metric.specs.Choices.{allowed}
 use Rattle.bp_metric.specs.Refutation.{extended}
-use Rattle.bp_metric.specs.Nodes.{Node, Part, SplitOf, ClosedBy, OpenBy, child_nodes, nodes_at, nodes_of}
-use Rattle.bp_document.specs.declared.node_line.NodeKind.{NodeKind}
+use Rattle.bp_metric.specs.Nodes.{Node, SplitOf, ClosedBy, OpenBy, child_nodes, nodes_at, nodes_of}
 use Rattle.bp_document.specs.declared.node_line.NodeKind.TheVariants as kind
 use Rattle.bp_document.specs.declared.node_line.NodeLine.{NodeLine}
 use Rattle.bp_check.specs.declared.found.Found.{Found}
@@ -27,9 +26,9 @@ use Rattle.bp_check.specs.declared.stack.Stack.{Stack}
 use Rattle.bp_check.specs.Tests.{may_split}
 use Rattle.bp_check.specs.Found.{joined, found_claim, judged, found_of}
 use Rattle.bp_check.specs.Lines.{lines_at, lines_of}
-use Rattle.bp_check.specs.Stack.{step_of, path_of, stack_of, empty_stack, found_count, closed, entered, splits_entered, one_more, with_child, opened, is_wrong, with_split, joined_claim, with_claim, fed, run}
+use Rattle.bp_check.specs.Stack.{step_of, path_of, stack_of, empty_stack, found_count, closed, entered, splits_entered, with_child, opened, is_wrong, with_split, joined_claim, with_claim, fed, run}
 use Rattle.bp_check.proofs.Joined.{joined_none, none_joined, joined_comm, joined_assoc, split_stays, IsFrom, joined_from, from_less, judged_from, found_from, found_append, IsBefore, joined_before, before_more, sound_first, wrong_second, found_before}
-use Rattle.bp_check.proofs.Kept.{cases_bool, eqb-is, eqb-not, child_last, child_length, closed_closed, closed_done, closed_last, same_stack, entered_last, entered_other, split_opened, split_not}
+use Rattle.bp_check.proofs.Kept.{cases_bool, eqb-is, eqb-not, child_last, child_length, closed_closed, closed_done, closed_last, split_opened, split_not}
 
 -- the lines of a child, from this depth on
 abbrev pub lines_from : ℕ → Refutation → List NodeLine

@@ -1,5 +1,5 @@
 -- Steps of the walk of a refutation.
-use Rattle.std.proofs.Common.{◌≡◌, ℕ, zero, suc, ◌+◌, ◌*◌, ◌<◌, ◌≤◌, List, [], ◌∷◌, ◌++◌, length, refl, sym, ap, ◌∙◌, subst, arith, length-append, append_assoc, Result, Ok, Err}
+use Rattle.std.proofs.Common.{◌≡◌, ℕ, ◌+◌, ◌*◌, ◌<◌, List, [], ◌∷◌, ◌++◌, length, sym, ap, ◌∙◌, arith, length-append, append_assoc, Result, Ok, Err}
 use Rattle.std.specs.Result.{OnOk}
 use Rattle.std.specs.List.{flat_map}
 use Rattle.std.proofs.lemmas.List.{append-nil}
@@ -14,7 +14,7 @@ use Rattle.bp_document.specs.declared.node_line.NodeLine.{NodeLine}
 use Rattle.bp_check.specs.declared.stack.Stack.{Stack}
 use Rattle.bp_check.specs.declared.walk.Level.{Level}
 use Rattle.bp_check.specs.Lines.{lines_of}
-use Rattle.bp_check.specs.Stack.{fed, run, with_node, entered, closed}
+use Rattle.bp_check.specs.Stack.{fed, run}
 use Rattle.bp_check.specs.Walk.{lines_below, lines_left, size_left}
 use Rattle.bp_check.proofs.Reading.{lines_from, lines-split, lines-closed, lines-open}
 

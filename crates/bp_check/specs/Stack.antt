@@ -1,6 +1,6 @@
 -- What the stack of open splits makes of node lines that are fed one after the other. A split is closed, and its number of children known, once a line
 -- of no greater depth comes, or the end.
-use Rattle.std.specs.Prelude.{◌≡◌, ◌≢◌, ℕ, ◌+◌, ◌-◌, ◌≤◌, ◌<◌, ◌==◌, List, [], ◌∷◌, ◌++◌, length, map, take, drop, All, AllPairs, slice_index_or, Bool, true, false, not, ◌&&◌, None, if◌then◌else◌}
+use Rattle.std.specs.Prelude.{◌≡◌, ◌≢◌, ℕ, ◌+◌, ◌-◌, ◌≤◌, ◌==◌, List, [], ◌∷◌, ◌++◌, length, map, take, drop, All, AllPairs, slice_index_or, Bool, true, false, not, ◌&&◌, None, if◌then◌else◌}
 use Rattle.bp_base.specs.declared.path.Choice.TheVariants.{Left}
 use Rattle.bp_base.specs.declared.path.Pair.{Pair}
 use Rattle.bp_base.specs.declared.path.Step.{Step}

@@ -1,12 +1,16 @@
 -- What is found of a proof, as its reasons say, and the verdict of a document.
-use Rattle.std.specs.Prelude.{◌≡◌, ℕ, Option, None, Some}
+use Rattle.std.specs.Prelude.{◌≡◌, ℕ, nat_le, Bool, ◌||◌, Option, None, Some, if◌then◌else◌}
 use Rattle.bp_base.specs.declared.point.Sheet.{Sheet}
 use Rattle.bp_base.specs.declared.refutation.Refutation.{Refutation}
 use Rattle.bp_base.specs.Tree.{TreeValue}
 use Rattle.bp_metric.specs.Nodes.{weighs}
+use Rattle.bp_pairs.specs.declared.valid.Flaw.{Flaw}
+use Rattle.bp_pairs.specs.declared.valid.Flaw.TheVariants as flaw
 use Rattle.bp_document.specs.declared.document.Document.{Document}
 use Rattle.bp_check.specs.declared.found.Found.{Found}
 use Rattle.bp_check.specs.declared.found.Found.TheVariants.{Sound, WrongChain, WrongSplit}
+use Rattle.bp_check.specs.declared.verdict.Reason.{Reason}
+use Rattle.bp_check.specs.declared.verdict.Reason.TheVariants.{Outside, TooNear, BadSplit, BadChain, BoundNotShown}
 use Rattle.bp_check.specs.declared.verdict.Verdict.{Verdict}
 use Rattle.bp_check.specs.declared.verdict.Verdict.TheVariants.{Yes, No}
 use Rattle.bp_check.specs.Checks.{Checks, ProofFits}
@@ -27,3 +31,19 @@ IsFoundOf T G proof (Sound w) = ProofFits T G proof × (w ≡ weight_of T G proo
 abbrev pub IsVerdictOf : TreeValue → Document → Verdict → Type 0
 IsVerdictOf T D Yes = Checks T D
 IsVerdictOf T D (No reason) = IsFirstReason T D reason
+
+-- the reason that a flaw of the points is
+abbrev pub reason_of : Flaw → Reason
+reason_of (flaw.Outside i) = Outside i
+reason_of (flaw.Near i j) = TooNear i j
+
+-- the number is at most the other, or at most the weight, where there is one
+abbrev pub is_shown : ℕ → ℕ → Option ℕ → Bool
+is_shown bound floor None = nat_le bound floor
+is_shown bound floor (Some w) = nat_le bound floor || nat_le bound w
+
+-- the verdict once the points are valid and the floor holds
+abbrev pub verdict_of : ℕ → ℕ → Found → Verdict
+verdict_of bound floor (Sound w) = if is_shown bound floor w then Yes else No BoundNotShown
+verdict_of bound floor (WrongChain k) = No (BadChain k)
+verdict_of bound floor (WrongSplit k) = No (BadSplit k)

@@ -1,7 +1,6 @@
 -- The lines that a walk of a refutation has still to feed.
 use Rattle.std.specs.Prelude.{ℕ, ◌+◌, ◌*◌, List, [], ◌∷◌, ◌++◌, length}
 use Rattle.std.specs.List.{flat_map}
-use Rattle.bp_base.specs.declared.refutation.Refutation.{Refutation}
 use Rattle.bp_document.specs.declared.node_line.NodeLine.{NodeLine}
 use Rattle.bp_check.specs.declared.walk.Level.{Level}
 use Rattle.bp_check.specs.Lines.{lines_of}

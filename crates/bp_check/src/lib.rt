@@ -1,9 +1,13 @@
 //! What a right design is: the conditions that a checker tests, the first of them that fails, and what `design` writes.
 #![tactic(auto)]
 
+mod checking;
 mod found;
+mod laws;
 mod stack;
 mod verdict;
 mod walk;
 
+pub use checking::check;
+pub use laws::{checks_without_reason, law_of_checks, one_reason};
 pub use verdict::{Reason, Verdict};

@@ -1,8 +1,6 @@
-use Rattle.std.proofs.Common.{◌≡◌, ◌∙◌, ℕ, ◌+◌, ◌-◌, ◌<◌, refl, sym, ap, subst, arith, true, false, length, List, [], ◌∷◌, ◌++◌}
-use Rattle.bp_base.specs.declared.chain.Claim.{Claim}
+use Rattle.std.proofs.Common.{◌∙◌, ℕ, sym, ap, subst}
 use Rattle.bp_metric.specs.Chains.{ClaimHolds}
 use Rattle.bp_check.specs.declared.found.Found.TheVariants.{Sound}
-use Rattle.bp_check.specs.Found.{found_claim}
 use Rattle.bp_check.proofs.Claims.{claim_sound, claim_wrong, leaves_of}
 use Rattle.std.proofs.lemmas.Bool.{true≢false}
 use Rattle.std.specs.declared.option.Option.{Option}

@@ -1,4 +1,4 @@
-use Rattle.std.proofs.Common.{◌≡◌, ℕ, length}
+use Rattle.std.proofs.Common.{◌≡◌, length}
 use Rattle.bp_check.proofs.stack.long_path.Given as goal
 
 abbrev pub invariant-loop : goal.invariant-loop

@@ -1,4 +1,4 @@
-use Rattle.std.proofs.Common.{◌≡◌, ℕ, false, List, take}
+use Rattle.std.proofs.Common.{◌≡◌, false, take}
 use Rattle.std.specs.List.{list_any}
 use Rattle.bp_base.specs.declared.path.Step.{Step}
 use Rattle.bp_check.specs.Tests.{is_same_pair}

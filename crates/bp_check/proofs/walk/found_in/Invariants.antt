@@ -1,4 +1,4 @@
-use Rattle.std.proofs.Common.{◌≡◌, ℕ}
+use Rattle.std.proofs.Common.{◌≡◌}
 use Rattle.bp_check.specs.Lines.{lines_of}
 use Rattle.bp_check.specs.Stack.{IsKept, empty_stack, run}
 use Rattle.bp_check.specs.Walk.{lines_left, size_left}

@@ -1,4 +1,4 @@
-use Rattle.std.proofs.Common.{◌≡◌, ◌∙◌, ℕ, refl, sym, ap, subst, arith, length}
+use Rattle.std.proofs.Common.{arith}
 use Rattle.bp_check.proofs.Walking.{split_lines, split_less, closed_lines, closed_less, open_lines, open_less, at_ok, always_ok}
 use Rattle.bp_check.proofs.walk.visit.Goals as goal
 
@@ -25,4 +25,3 @@ returns-in-Open-clause-lines c =
 
 pub returns-in-Open-clause-less : goal.returns-in-Open-clause-less
 returns-in-Open-clause-less c = always_ok c.feed_claim-in-Open.result (open_less c.args.levels.now.items c.args.node.now c.in-Open.claim c.in-Open.is)
-

@@ -1,6 +1,5 @@
-use Rattle.std.proofs.Common.{◌≡◌, ◌∙◌, ℕ, List, refl, sym, ap, subst, arith, length}
+use Rattle.std.proofs.Common.{◌∙◌, refl, sym, ap}
 use Rattle.std.proofs.lemmas.List.{nil_from_length}
-use Rattle.bp_document.specs.declared.node_line.NodeLine.{NodeLine}
 use Rattle.bp_check.specs.Stack.{run}
 use Rattle.bp_check.proofs.Walking.{first_child, first_child_less, no_child, no_child_less}
 use Rattle.bp_check.proofs.walk.visit_next.Goals as goal

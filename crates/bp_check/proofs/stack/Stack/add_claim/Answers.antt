@@ -1,4 +1,4 @@
-use Rattle.std.proofs.Common.{◌≡◌, ◌∙◌, ℕ, ◌+◌, ◌-◌, ◌<◌, refl, sym, ap, subst, arith, true, false, length, List, [], ◌∷◌, ◌++◌}
+use Rattle.std.proofs.Common.{refl}
 use Rattle.bp_check.proofs.Kept.{claim_is}
 use Rattle.bp_check.proofs.stack.Stack.add_claim.Goals as goal
 

@@ -1,4 +1,4 @@
-use Rattle.std.proofs.Common.{◌≡◌, ◌∙◌, ℕ, ◌+◌, ◌-◌, ◌<◌, refl, sym, ap, subst, arith, true, false, length, List, [], ◌∷◌, ◌++◌}
+use Rattle.std.proofs.Common.{◌≡◌, ◌∙◌, refl, sym, subst}
 use Rattle.std.specs.Result.{OnOk}
 use Rattle.bp_check.specs.declared.stack.Stack.{Stack}
 use Rattle.bp_check.proofs.Kept.{split_opened, split_refused}

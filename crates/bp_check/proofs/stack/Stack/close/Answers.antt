@@ -1,4 +1,4 @@
-use Rattle.std.proofs.Common.{◌≡◌, ◌∙◌, ℕ, ◌+◌, ◌-◌, ◌<◌, refl, sym, ap, subst, arith, true, false, length, List, [], ◌∷◌, ◌++◌}
+use Rattle.std.proofs.Common.{◌∙◌, ◌-◌, sym, ap, arith, length}
 use Rattle.bp_check.specs.Stack.{closed}
 use Rattle.bp_check.proofs.Kept.{closed_closed, closed_done}
 use Rattle.bp_check.proofs.stack.Stack.close.Goals as goal

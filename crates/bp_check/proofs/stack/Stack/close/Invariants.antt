@@ -1,4 +1,4 @@
-use Rattle.std.proofs.Common.{◌≡◌, ℕ, length}
+use Rattle.std.proofs.Common.{◌≡◌, length}
 use Rattle.bp_check.specs.Stack.{IsKept, closed}
 use Rattle.bp_check.proofs.stack.Stack.close.Given as goal
 

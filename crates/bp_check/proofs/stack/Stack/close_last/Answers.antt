@@ -1,8 +1,6 @@
-use Rattle.std.proofs.Common.{◌≡◌, ◌∙◌, ℕ, ◌+◌, ◌-◌, ◌<◌, refl, sym, ap, subst, arith, true, false, length, List, [], ◌∷◌, ◌++◌}
-use Rattle.bp_check.specs.Stack.{stack_of, path_of, closed, KeepsWithin, found_count}
+use Rattle.std.proofs.Common.{◌∙◌, ◌-◌, refl, sym, ap, subst, length}
+use Rattle.bp_check.specs.Stack.{KeepsWithin}
 use Rattle.bp_check.specs.Found.{joined}
-use Rattle.bp_check.specs.declared.found.Found.{Found}
-use Rattle.bp_check.specs.declared.stack.Stack.{Stack}
 use Rattle.bp_check.proofs.Kept.{last_pair, close_is, keeps_closed}
 use Rattle.bp_check.proofs.stack.Stack.close_last.Goals as goal
 

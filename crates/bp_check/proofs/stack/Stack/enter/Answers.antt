@@ -1,4 +1,4 @@
-use Rattle.std.proofs.Common.{◌≡◌, ◌∙◌, ℕ, ◌+◌, ◌-◌, ◌<◌, refl, sym, ap, subst, arith, true, false, length, List, [], ◌∷◌, ◌++◌}
+use Rattle.std.proofs.Common.{◌∙◌, sym}
 use Rattle.bp_check.proofs.Kept.{entered_last, entered_none}
 use Rattle.bp_check.proofs.stack.Stack.enter.Goals as goal
 

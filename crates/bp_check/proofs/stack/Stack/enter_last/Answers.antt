@@ -1,7 +1,6 @@
-use Rattle.std.proofs.Common.{◌≡◌, ◌∙◌, ℕ, ◌+◌, ◌-◌, ◌<◌, refl, sym, ap, subst, arith, true, false, length, length-append, List, [], ◌∷◌, ◌++◌}
+use Rattle.std.proofs.Common.{◌∙◌, ◌+◌, refl, sym, ap, subst, arith, length, length-append, [], ◌∷◌, ◌++◌}
 use Rattle.bp_base.specs.Tree.{leaf_count}
-use Rattle.bp_check.specs.Stack.{one_more, with_child, stack_of, path_of, KeepsWithin}
-use Rattle.bp_check.specs.declared.stack.Stack.{Stack}
+use Rattle.bp_check.specs.Stack.{one_more, KeepsWithin}
 use Rattle.bp_check.proofs.Kept.{last_pair, small_pair, step_pair, few_steps, enter_is, keeps_child}
 use Rattle.bp_check.proofs.stack.Stack.enter_last.Goals as goal
 

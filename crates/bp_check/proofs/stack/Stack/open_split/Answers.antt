@@ -1,5 +1,4 @@
-use Rattle.std.proofs.Common.{◌≡◌, ◌∙◌, ℕ, ◌+◌, ◌-◌, ◌<◌, refl, sym, ap, subst, arith, true, false, length, List, [], ◌∷◌, ◌++◌}
-use Rattle.bp_base.specs.declared.path.Pair.{Pair}
+use Rattle.std.proofs.Common.{◌∙◌, ◌+◌, refl, sym, ap, subst, [], ◌∷◌, ◌++◌}
 use Rattle.bp_base.specs.Tree.{leaf_count}
 use Rattle.bp_check.specs.Stack.{opened, KeepsWithin}
 use Rattle.bp_check.proofs.Kept.{split_pair, small_pair, step_pair, room_for, keeps_open, same_stack, path_push}
