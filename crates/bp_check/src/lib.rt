@@ -11,3 +11,6 @@ mod walk;
 pub use checking::check;
 pub use laws::{checks_without_reason, law_of_checks, one_reason};
 pub use verdict::{Reason, Verdict};
+
+#[cfg(test)]
+mod tests;
