@@ -8,3 +8,4 @@ pub mod Walking
 pub mod Judging
 pub mod Reasoning
 pub mod Right
+pub mod Deciding

@@ -1,6 +1,6 @@
 // Laws of documents that check, and of reasons.
-ghost use Rattle.std.specs.Prelude.{◌≡◌, ◌≤◌};
-ghost use Rattle.bp_base.specs.Tree.{TreeValue};
+ghost use Rattle.std.specs.Prelude.{◌≡◌, ◌≤◌, length};
+ghost use Rattle.bp_base.specs.Tree.{TreeValue, leaf_count};
 ghost use Rattle.bp_metric.specs.Valid.{NoneBelow};
 ghost use Rattle.bp_document.specs.declared.document.Document.{Document as AnyDocument};
 ghost use Rattle.bp_check.specs.declared.verdict.Reason.{Reason as AnyReason};
@@ -31,4 +31,9 @@ pub fn checks_without_reason()
 /// There is only one first reason.
 pub fn one_reason()
     ensures { (T : TreeValue) (D : AnyDocument) (r s : AnyReason) → IsFirstReason T D r → IsFirstReason T D s → r ≡ s }
+{}
+
+/// Where a document has one point per leaf of its own tree and doesn't check, there is a first reason.
+pub fn has_reason()
+    ensures { (T : TreeValue) (D : AnyDocument) → length D.points ≡ leaf_count D.tree → (Checks T D → ⊥) → (r : AnyReason) × IsFirstReason T D r }
 {}

@@ -9,7 +9,7 @@ mod verdict;
 mod walk;
 
 pub use checking::check;
-pub use laws::{checks_without_reason, law_of_checks, one_reason};
+pub use laws::{checks_without_reason, has_reason, law_of_checks, one_reason};
 pub use verdict::{Reason, Verdict};
 
 #[cfg(test)]

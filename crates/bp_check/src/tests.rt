@@ -3,7 +3,7 @@ ghost use Rattle.std.specs.Prelude.{◌≡◌, ◌≤◌, IsTrue, IfOk};
 ghost use Rattle.bp_metric.specs.Metric.{IsSheet};
 ghost use Rattle.bp_metric.specs.Samples.{is_sample, letters};
 
-use crate::{Reason, Verdict, check, checks_without_reason, law_of_checks, one_reason};
+use crate::{Reason, Verdict, check, checks_without_reason, has_reason, law_of_checks, one_reason};
 use bp_base::{Axis, Chain, Claim, Floor, Name, Pair, Point, Refutation, Sequence, Sheet, Tree};
 use bp_document::Document;
 use bp_metric::Metric;
@@ -318,6 +318,7 @@ fn two_corners(rt: HostRuntime) -> Result<(), Fail> {
     law_of_checks(&metric);
     checks_without_reason();
     one_reason();
+    has_reason();
     Ok(())
 }
 
