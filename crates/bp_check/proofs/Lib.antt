@@ -9,3 +9,4 @@ pub mod Judging
 pub mod Reasoning
 pub mod Right
 pub mod Deciding
+pub mod Taking

@@ -109,3 +109,9 @@ pub record KeepsWithin (T : TreeValue) (G : Sheet) (most : ℕ) (S : Stack) : Ty
 
 abbrev pub IsKept : TreeValue → Sheet → Stack → Type 0
 IsKept T G S = KeepsWithin T G S.count S
+
+-- the stack has taken these lines, and nothing else
+pub record HasTaken (T : TreeValue) (G : Sheet) (S : Stack) (lines : List NodeLine) : Type 0 where
+  pub is : S ≡ run T G empty_stack lines
+  pub kept : IsKept T G S
+  pub count : S.count ≡ length lines

@@ -1,16 +1,22 @@
 // The stack of open splits, which both calls feed with the nodes of a proof in preorder.
-ghost use Rattle.std.specs.Prelude.{◌≡◌, ◌<◌, ◌+◌, ◌-◌, ◌^◌, ◌++◌, ◌∷◌, [], length, not, ◌&&◌, All, IsTrue, IfOk, OnOk};
+ghost use Rattle.std.specs.Prelude.{◌≡◌, ◌<◌, ◌+◌, ◌-◌, ◌^◌, ◌++◌, ◌∷◌, [], List, length, not, ◌&&◌, All, None, Some, IsTrue, IfOk, OnOk};
 ghost use Rattle.bp_base.specs.Path.{IsPairOf};
-ghost use Rattle.bp_base.specs.Tree.{IsLeaf, leaf_count};
+ghost use Rattle.bp_base.specs.Tree.{IsLeaf, TreeValue, leaf_count};
+ghost use Rattle.bp_base.specs.declared.point.Sheet.{Sheet as AnySheet};
+ghost use Rattle.bp_base.specs.declared.refutation.Refutation.{Refutation as AnyRefutation};
+ghost use Rattle.bp_document.specs.declared.node_line.NodeLine.{NodeLine as AnyLine};
 ghost use Rattle.bp_metric.specs.Nodes.{counted};
 ghost use Rattle.bp_document.specs.declared.node_line.NodeKind.TheVariants.{Closed as ClosedKind, Split as SplitKind};
 ghost use Rattle.bp_check.specs.Found.{chain_of, counted_on, found_claim};
-ghost use Rattle.bp_check.specs.Stack.{IsKept, KeepsWithin, closed, empty_stack, entered, fed, found_count, is_wrong, joined_claim, opened, stack_of, step_of, with_child, with_claim, with_split};
+ghost use Rattle.bp_check.specs.Stack.{HasTaken, IsKept, KeepsWithin, closed, empty_stack, entered, fed, found_count, is_wrong, joined_claim, opened, stack_of, step_of, with_child, with_claim, with_split};
+ghost use Rattle.bp_check.specs.Lines.{lines_of};
+ghost use Rattle.bp_check.specs.Verdicts.{IsFoundOf};
 ghost use Rattle.bp_check.specs.Tests.{may_split, stands_on};
 
 use crate::found::{Found, joined};
 use bp_base::{Axis, Choice, Claim, MOST_STEPS, NoMemory, Pair, Path, Sequence, Sheet, Step};
 use bp_chain::{claim_holds, weight};
+use bp_document::{NodeKind, NodeLine};
 use bp_metric::Metric;
 use bp_pairs::allowed;
 use std::alloc::Global;
@@ -36,7 +42,8 @@ pub struct Stack {
 impl Stack {
     /// The stack before the first node, with the memory for all that it will hold.
     pub fn empty(alloc: Global) -> Result<Stack, NoMemory>
-        ensures { IfOk result (λ s. s ≡ empty_stack) }
+        ensures empty { IfOk result (λ s. s ≡ empty_stack) }
+        ensures taken { IfOk result (λ s. (T : TreeValue) (G : AnySheet) → HasTaken T G s []) }
     {
         let splits = Vec::with_capacity(alloc, MOST_STEPS as usize)?;
         Ok(Stack {
@@ -45,6 +52,19 @@ impl Stack {
             count: 0,
             found: Found::Sound { weight: None },
         })
+    }
+
+    /// Takes the next node of a proof, by its line. After NoMemory the stack is of no use.
+    pub fn feed(&mut self, metric: &Metric, line: &NodeLine) -> Result<(), NoMemory>
+        requires kept { IsKept metric.now.tree metric.now.sheet self.old }
+        requires room { self.old.count + 1 < 2 ^ 64 }
+        ensures { OnOk result ((lines : List AnyLine) → HasTaken metric.now.tree metric.now.sheet self.old lines → HasTaken metric.now.tree metric.now.sheet self.new (lines ++ line.now ∷ [])) }
+    {
+        match &line.kind {
+            NodeKind::Split { pair } => self.feed_split(metric, line.depth, *pair),
+            NodeKind::Closed { claim } => self.feed_claim(metric, line.depth, claim),
+            NodeKind::Open { claim } => self.feed_claim(metric, line.depth, claim),
+        }
     }
 
     /// Takes the next node, a split. After NoMemory the stack is of no use.
@@ -72,10 +92,12 @@ impl Stack {
         Ok(())
     }
 
-    /// What was found of the nodes, once all are fed.
+    /// What was found of the nodes, once the lines of a whole proof are fed, or nothing where there is none.
     pub fn finish(&mut self, metric: &Metric) -> Found
         requires kept { IsKept metric.now.tree metric.now.sheet self.old }
-        ensures { result ≡ (closed metric.now.tree metric.now.sheet 0 self.old).found }
+        ensures closed { result ≡ (closed metric.now.tree metric.now.sheet 0 self.old).found }
+        ensures proof { (r : AnyRefutation) → HasTaken metric.now.tree metric.now.sheet self.old (lines_of r 0) → IsFoundOf metric.now.tree metric.now.sheet (Some r) result }
+        ensures none { HasTaken metric.now.tree metric.now.sheet self.old [] → IsFoundOf metric.now.tree metric.now.sheet None result }
     {
         self.close(metric, 0);
         self.found

@@ -13,4 +13,4 @@ returns c =
     let G = c.args.metric.now.sheet in
     let none = nil_from_length c.loop-level.levels.items (omega (arith, c.in_default.ensures.cases.0, c.loop-level.levels.ok)) in
     let all = ap (λ (ls : List Level). run T G c.loop-level.stack (lines_left ls)) (sym none) ∙ c.loop-level.invariant.lines in
-    c.finish.ensures ∙ ap (λ (S : Stack). (closed T G 0 S).found) all ∙ whole_read T G c.args.proof.now
+    c.finish.ensures.closed ∙ ap (λ (S : Stack). (closed T G 0 S).found) all ∙ whole_read T G c.args.proof.now
