@@ -5,6 +5,7 @@ use Rattle.std.proofs.lemmas.Bool.{true≢false, leb-true, le-leb, cases_order}
 use Rattle.std.proofs.lemmas.Bool.Decides.{Decides-eqb}
 use Rattle.std.proofs.lemmas.Slice.Eq.{slice_eq-Decides}
 use Rattle.bp_base.specs.declared.point.Point.{Point}
+use Rattle.bp_base.specs.declared.point.Floor.{Floor}
 use Rattle.bp_base.specs.declared.point.Sheet.{Sheet}
 use Rattle.bp_base.specs.declared.refutation.Refutation.{Refutation}
 use Rattle.bp_base.specs.Tree.{TreeValue}
@@ -24,7 +25,7 @@ use Rattle.bp_check.specs.declared.verdict.Verdict.TheVariants.{Yes, No}
 use Rattle.bp_check.specs.Checks.{Checks, IsAtMost, ProofFits, ProofShows}
 use Rattle.bp_check.specs.Reasons.{IsLeast, HasBadSplit, HasBadChain, Fails, rank, IsFirstReason}
 use Rattle.bp_check.specs.Found.{found_of}
-use Rattle.bp_check.specs.Verdicts.{weight_of, IsFoundOf, IsVerdictOf, reason_of, is_shown, verdict_of}
+use Rattle.bp_check.specs.Verdicts.{HasParts, IsSoundSoFar, weight_of, IsFoundOf, IsVerdictOf, reason_of, is_shown, verdict_of}
 use Rattle.bp_check.proofs.Judging.{fits_split, fits_chain, found_is}
 use Rattle.bp_check.proofs.Kept.{cases_bool}
 
@@ -215,26 +216,37 @@ pub if_ok : {X E : Type 0} {P Q : X → Type 0} (r : Result X E) → ((x : X) �
 if_ok (Ok x) f is = f x is
 if_ok (Err e) f is = is
 
--- as the code has them: the tree and the sheet are the metric's
-module _ (T : TreeValue) (G : Sheet) (D : Document) (P : List Point) (same : D.tree ≡ T) (sheet : D.sheet ≡ G) (points : P ≡ D.points) where
-  pub flaw_verdict : (f : Flaw) (r : Reason) → r ≡ reason_of f → IsFlaw T G D.side P f → IsFirstReason T D r
-  flaw_verdict f r is flawed =
-      let there = subst (λ (Q : List Point). IsFlaw T D.sheet D.side Q f) points (subst (λ (H : Sheet). IsFlaw T H D.side P f) (sym sheet) flawed) in
-      subst (IsFirstReason T D) (sym is) (flaw_first T D same f there)
+-- as the code has them: the parts of a document
+module _ (T : TreeValue) (D : Document) (tree : TreeValue) (G : Sheet) (s : ℕ) (P : List Point) (floor : Floor) (parts : HasParts D tree G s P floor) where
+  pub differs_before : (tree ≡ T → ⊥) → IsFirstReason T D TreeDiffers
+  differs_before other = differs_first T D (λ is. other (sym parts.tree_is ∙ is))
 
-  valid_here : Valid T G 1 D.side P → Valid T D.sheet 1 D.side D.points
-  valid_here valid =
-      subst (λ (Q : List Point). Valid T D.sheet 1 D.side Q) points (subst (λ (H : Sheet). Valid T H 1 D.side P) (sym sheet) valid)
+  module _ (same : tree ≡ T) where
+    pub flaw_before : (f : Flaw) (r : Reason) → r ≡ reason_of f → IsFlaw T G s P f → IsFirstReason T D r
+    flaw_before f r is flawed =
+        let there : IsFlaw T D.sheet D.side D.points f = subst (λ (Q : List Point). IsFlaw T D.sheet D.side Q f) (sym parts.points_are) (subst (λ (H : Sheet). IsFlaw T H D.side P f) (sym parts.sheet_is) (subst (λ (n : ℕ). IsFlaw T G n P f) (sym parts.side_is) flawed)) in
+        subst (IsFirstReason T D) (sym is) (flaw_first T D (parts.tree_is ∙ same) f there)
 
-  pub floor_verdict : Valid T G 1 D.side P → (FloorHolds T G D.floor → ⊥) → IsFirstReason T D BadFloor
-  floor_verdict valid not =
-      floor_first T D same (valid_here valid) (λ holds. not (subst (λ (H : Sheet). FloorHolds T H D.floor) sheet holds))
+    valid_here : Valid T G 1 s P → Valid T D.sheet 1 D.side D.points
+    valid_here valid =
+        subst (λ (Q : List Point). Valid T D.sheet 1 D.side Q) (sym parts.points_are) (subst (λ (H : Sheet). Valid T H 1 D.side P) (sym parts.sheet_is) (subst (λ (n : ℕ). Valid T G 1 n P) (sym parts.side_is) valid))
 
-  pub found_verdict : (f : Found) (v : Verdict) → Valid T G 1 D.side P → FloorHolds T G D.floor → IsFoundOf T G D.proof f → v ≡ verdict_of D.bound D.floor.side f → IsVerdictOf T D v
-  found_verdict f v valid holds found is =
-      let floor = subst (λ (H : Sheet). FloorHolds T H D.floor) (sym sheet) holds in
-      let here = subst (λ (H : Sheet). IsFoundOf T H D.proof f) (sym sheet) found in
-      subst (IsVerdictOf T D) (sym is) (verdict_is T D same (valid_here valid) floor f here)
+    pub floor_before : Valid T G 1 s P → (FloorHolds T G floor → ⊥) → IsFirstReason T D BadFloor
+    floor_before valid not =
+        floor_first T D (parts.tree_is ∙ same) (valid_here valid) (λ holds. not (subst (λ (f : Floor). FloorHolds T G f) parts.floor_is (subst (λ (H : Sheet). FloorHolds T H D.floor) parts.sheet_is holds)))
+
+    pub none_before : Valid T G 1 s P → FloorHolds T G floor → IsSoundSoFar T D
+    none_before valid holds = record {
+      tree = parts.tree_is ∙ same;
+      valid = valid_here valid;
+      floor = subst (λ (H : Sheet). FloorHolds T H D.floor) (sym parts.sheet_is) (subst (λ (f : Floor). FloorHolds T G f) (sym parts.floor_is) holds);
+    }
+
+-- the verdict of a document without an earlier reason
+pub found_verdict : (T : TreeValue) (G : Sheet) (D : Document) (f : Found) (v : Verdict) → D.sheet ≡ G → IsSoundSoFar T D → IsFoundOf T G D.proof f → v ≡ verdict_of D.bound D.floor.side f → IsVerdictOf T D v
+found_verdict T G D f v sheet sound found is =
+    let here = subst (λ (H : Sheet). IsFoundOf T H D.proof f) (sym sheet) found in
+    subst (IsVerdictOf T D) (sym is) (verdict_is T D sound.tree sound.valid sound.floor f here)
 
 pub found_some : (T : TreeValue) (G : Sheet) (proof : Option Refutation) (r : Refutation) (f : Found) → proof ≡ Some r → f ≡ found_of T G 0 (nodes_of T G r) → IsFoundOf T G proof f
 found_some T G proof r f is found =

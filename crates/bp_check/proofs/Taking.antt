@@ -1,11 +1,10 @@
 -- The lines that a stack has taken, one after the other.
-use Rattle.std.proofs.Common.{◌≡◌, ◌&&◌, ℕ, ◌+◌, Bool, true, false, cond, not, List, [], ◌∷◌, ◌++◌, length, All, AllPairs, None, Some, Result, Ok, Err, refl, sym, ap, ◌∙◌, subst, arith, length-append}
+use Rattle.std.proofs.Common.{◌≡◌, ◌&&◌, ◌+◌, true, false, cond, not, List, [], ◌∷◌, ◌++◌, None, Some, Result, Ok, Err, refl, sym, ap, ◌∙◌, subst, arith, length-append}
 use Rattle.std.specs.Result.{OnOk}
 use Rattle.bp_base.specs.declared.path.Pair.{Pair}
 use Rattle.bp_base.specs.declared.point.Sheet.{Sheet}
 use Rattle.bp_base.specs.declared.chain.Claim.{Claim}
 use Rattle.bp_base.specs.declared.refutation.Refutation.{Refutation}
-use Rattle.bp_base.specs.Path.{IsPairOf}
 use Rattle.bp_base.specs.Tree.{TreeValue, leaf_count}
 use Rattle.bp_metric.specs.Nodes.{nodes_of}
 use Rattle.bp_document.specs.declared.node_line.NodeKind.{NodeKind}
@@ -13,10 +12,9 @@ use Rattle.bp_document.specs.declared.node_line.NodeKind.TheVariants.{Split, Clo
 use Rattle.bp_document.specs.declared.node_line.NodeLine.{NodeLine}
 use Rattle.bp_check.specs.declared.found.Found.{Found}
 use Rattle.bp_check.specs.declared.found.Found.TheVariants.{WrongSplit}
-use Rattle.bp_check.specs.declared.stack.OpenSplit.{OpenSplit}
 use Rattle.bp_check.specs.declared.stack.Stack.{Stack}
 use Rattle.bp_check.specs.Tests.{may_split}
-use Rattle.bp_check.specs.Found.{joined, found_of, found_proof}
+use Rattle.bp_check.specs.Found.{joined, found_of}
 use Rattle.bp_check.specs.Lines.{lines_of}
 use Rattle.bp_check.specs.Stack.{stack_of, empty_stack, opened, is_wrong, closed, entered, with_split, with_claim, with_node, fed, run, IsKept, HasTaken}
 use Rattle.bp_check.specs.Verdicts.{IsFoundOf}

@@ -1,9 +1,13 @@
 -- What is found of a proof, as its reasons say, and the verdict of a document.
-use Rattle.std.specs.Prelude.{◌≡◌, ℕ, nat_le, Bool, ◌||◌, Option, None, Some, if◌then◌else◌}
+use Rattle.std.specs.Prelude.{◌≡◌, ℕ, nat_le, Bool, ◌||◌, List, Option, None, Some, if◌then◌else◌}
+use Rattle.bp_base.specs.declared.point.Floor.{Floor}
+use Rattle.bp_base.specs.declared.point.Point.{Point}
 use Rattle.bp_base.specs.declared.point.Sheet.{Sheet}
 use Rattle.bp_base.specs.declared.refutation.Refutation.{Refutation}
 use Rattle.bp_base.specs.Tree.{TreeValue}
+use Rattle.bp_metric.specs.Floor.{FloorHolds}
 use Rattle.bp_metric.specs.Nodes.{weighs}
+use Rattle.bp_metric.specs.Valid.{Valid}
 use Rattle.bp_pairs.specs.declared.valid.Flaw.{Flaw}
 use Rattle.bp_pairs.specs.declared.valid.Flaw.TheVariants as flaw
 use Rattle.bp_document.specs.declared.document.Document.{Document}
@@ -47,3 +51,22 @@ abbrev pub verdict_of : ℕ → ℕ → Found → Verdict
 verdict_of bound floor (Sound w) = if is_shown bound floor w then Yes else No BoundNotShown
 verdict_of bound floor (WrongChain k) = No (BadChain k)
 verdict_of bound floor (WrongSplit k) = No (BadSplit k)
+
+-- the document has these parts
+pub record HasParts (D : Document) (tree : TreeValue) (sheet : Sheet) (side : ℕ) (points : List Point) (floor : Floor) : Type 0 where
+  pub tree_is : D.tree ≡ tree
+  pub sheet_is : D.sheet ≡ sheet
+  pub side_is : D.side ≡ side
+  pub points_are : D.points ≡ points
+  pub floor_is : D.floor ≡ floor
+
+-- the tree is the document's, the points are valid and the floor holds
+pub record IsSoundSoFar (T : TreeValue) (D : Document) : Type 0 where
+  pub tree : D.tree ≡ T
+  pub valid : Valid T D.sheet 1 D.side D.points
+  pub floor : FloorHolds T D.sheet D.floor
+
+-- the first reason before those of the proof, if there is one
+abbrev pub IsReasonBeforeProof : TreeValue → Document → Option Reason → Type 0
+IsReasonBeforeProof T D None = IsSoundSoFar T D
+IsReasonBeforeProof T D (Some reason) = IsFirstReason T D reason

@@ -3,19 +3,20 @@ ghost use Rattle.std.specs.Prelude.{◌≡◌, ◌≤◌, ◌↔◌, length, IsT
 ghost use Rattle.bp_base.specs.Tree.{leaf_count};
 ghost use Rattle.bp_metric.specs.Metric.{IsSheet};
 ghost use Rattle.bp_metric.specs.Valid.{NoneBelow, Valid};
+ghost use Rattle.bp_document.specs.declared.document.Document.{Document as AnyDocument};
 ghost use Rattle.bp_check.specs.declared.verdict.Reason.{Reason as AnyReason};
 ghost use Rattle.bp_check.specs.declared.verdict.Reason.TheVariants.{StripSheet};
 ghost use Rattle.bp_check.specs.declared.verdict.Verdict.TheVariants.{No, Yes};
 ghost use Rattle.bp_check.specs.Checks.{Checks};
 ghost use Rattle.bp_check.specs.Reasons.{IsFirstReason};
-ghost use Rattle.bp_check.specs.Verdicts.{IsFoundOf, IsVerdictOf, is_shown, reason_of, verdict_of};
+ghost use Rattle.bp_check.specs.Verdicts.{HasParts, IsFoundOf, IsReasonBeforeProof, IsVerdictOf, is_shown, reason_of, verdict_of};
 ghost use Rattle.bp_check.specs.Written.{IsWanted};
 
 use crate::found::Found;
 use crate::laws::law_of_checks;
 use crate::verdict::{Reason, Verdict};
 use crate::walk::found_in;
-use bp_base::{Name, NoMemory, Refutation, Tree};
+use bp_base::{Floor, Name, NoMemory, Point, Refutation, Tree};
 use bp_document::Document;
 use bp_floor::floor_holds;
 use bp_metric::Metric;
@@ -46,17 +47,37 @@ fn judge(alloc: Global, metric: &Metric, document: &Document) -> Result<Verdict,
     requires sheet { document.now.sheet ≡ metric.now.sheet }
     ensures { IfOk result (λ v. IsVerdictOf metric.now.tree document.now v) }
 {
-    if !are_same(metric.tree(), &document.tree) {
-        return Ok(Verdict::No(Reason::TreeDiffers));
-    }
-    if let Err(flaw) = is_valid(metric, document.side, document.points.as_slice()) {
-        return Ok(Verdict::No(reason_of(flaw)));
-    }
-    if !floor_holds(metric, &document.floor) {
-        return Ok(Verdict::No(Reason::BadFloor));
+    let points = document.points.as_slice();
+    let floor = &document.floor;
+    let reason = reason_before_proof(metric, &document.tree, document.side, points, floor);
+    if let Some(reason) = reason {
+        return Ok(Verdict::No(reason));
     }
     let found = found_of_proof(alloc, metric, &document.proof)?;
     Ok(verdict_of(document.bound, document.floor.side, found))
+}
+
+/// The first reason before those of the proof, against any document that has these parts and the metric's sheet.
+pub fn reason_before_proof(
+    metric: &Metric,
+    own: &Tree,
+    side: u64,
+    points: &[Point],
+    floor: &Floor,
+) -> Option<Reason>
+    requires each { length points.now ≡ leaf_count own.now }
+    ensures { (D : AnyDocument) → HasParts D own.now metric.now.sheet side points.now floor.now → IsReasonBeforeProof metric.now.tree D result }
+{
+    if !are_same(metric.tree(), own) {
+        return Some(Reason::TreeDiffers);
+    }
+    if let Err(flaw) = is_valid(metric, side, points) {
+        return Some(reason_of(flaw));
+    }
+    if !floor_holds(metric, floor) {
+        return Some(Reason::BadFloor);
+    }
+    None
 }
 
 fn are_same(tree: &Tree, other: &Tree) -> bool

@@ -44,6 +44,7 @@ impl Stack {
     pub fn empty(alloc: Global) -> Result<Stack, NoMemory>
         ensures empty { IfOk result (λ s. s ≡ empty_stack) }
         ensures taken { IfOk result (λ s. (T : TreeValue) (G : AnySheet) → HasTaken T G s []) }
+        ensures kept { IfOk result (λ s. (T : TreeValue) (G : AnySheet) → IsKept T G s) }
     {
         let splits = Vec::with_capacity(alloc, MOST_STEPS as usize)?;
         Ok(Stack {
@@ -58,7 +59,8 @@ impl Stack {
     pub fn feed(&mut self, metric: &Metric, line: &NodeLine) -> Result<(), NoMemory>
         requires kept { IsKept metric.now.tree metric.now.sheet self.old }
         requires room { self.old.count + 1 < 2 ^ 64 }
-        ensures { OnOk result ((lines : List AnyLine) → HasTaken metric.now.tree metric.now.sheet self.old lines → HasTaken metric.now.tree metric.now.sheet self.new (lines ++ line.now ∷ [])) }
+        ensures kept { OnOk result (IsKept metric.now.tree metric.now.sheet self.new) }
+        ensures taken { OnOk result ((lines : List AnyLine) → HasTaken metric.now.tree metric.now.sheet self.old lines → HasTaken metric.now.tree metric.now.sheet self.new (lines ++ line.now ∷ [])) }
     {
         match &line.kind {
             NodeKind::Split { pair } => self.feed_split(metric, line.depth, *pair),

@@ -3,9 +3,11 @@ ghost use Rattle.std.specs.Prelude.{◌≡◌, ◌≤◌, IsTrue, IfOk};
 ghost use Rattle.bp_metric.specs.Metric.{IsSheet};
 ghost use Rattle.bp_metric.specs.Samples.{is_sample, letters};
 
+use crate::found::Found;
+use crate::stack::Stack;
 use crate::{Reason, Verdict, check, checks_without_reason, has_reason, law_of_checks, one_reason};
 use bp_base::{Axis, Chain, Claim, Floor, Name, Pair, Point, Refutation, Sequence, Sheet, Tree};
-use bp_document::Document;
+use bp_document::{Document, NodeKind, NodeLine};
 use bp_metric::Metric;
 use sqlite_items::Items;
 use std::alloc::Global;
@@ -417,6 +419,49 @@ fn nine_proof_lines(rt: HostRuntime) -> Result<(), Fail> {
             Some(reason) => Verdict::No(reason),
         };
         assert_eq!(rt; nine_verdict(alloc, &own, bound, &proof)?, wanted);
+    }
+    Ok(())
+}
+
+// What is found of the lines of a proof that are fed one by one.
+fn fed(alloc: Global, metric: &Metric, rows: &[Row]) -> Result<Found, Fail> {
+    let mut stack = Stack::empty(alloc)?;
+    for row in rows {
+        let kind = match row.word {
+            Word::Split => NodeKind::Split {
+                pair: pair(row.numbers)?,
+            },
+            Word::Open => NodeKind::Open {
+                claim: claim(alloc, row)?,
+            },
+            _ => NodeKind::Closed {
+                claim: claim(alloc, row)?,
+            },
+        };
+        let depth = row.depth;
+        if stack.count > 1_000 {
+            return Err(Fail::from("too many lines"));
+        }
+        stack.feed(metric, &NodeLine { depth, kind })?;
+    }
+    Ok(stack.finish(metric))
+}
+
+#[test]
+fn line_by_line(rt: HostRuntime) -> Result<(), Fail> {
+    let alloc = rt.alloc();
+    let own = tree(alloc, &[0; 4], &[0, 1, 1, 1])?;
+    let metric = Metric::of(alloc, &own)?;
+    let rows = [
+        (true, 9, Ending::Walk, Found::Sound { weight: Some(2) }),
+        (true, 6, Ending::Walk, Found::WrongSplit { node: 3 }),
+        (false, 9, Ending::Walk, Found::WrongChain { node: 4 }),
+        (false, 9, Ending::BadSplit, Found::WrongSplit { node: 9 }),
+        (false, 9, Ending::TooMany, Found::WrongSplit { node: 0 }),
+    ];
+    for (right, left_out, end, wanted) in rows {
+        let proof = nine(alloc, right, left_out, end)?;
+        assert_eq!(rt; fed(alloc, &metric, &proof)?, wanted);
     }
     Ok(())
 }
