@@ -10,3 +10,4 @@ pub mod Reasoning
 pub mod Right
 pub mod Deciding
 pub mod Taking
+pub mod HeldLines

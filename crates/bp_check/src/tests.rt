@@ -4,10 +4,16 @@ ghost use Rattle.bp_metric.specs.Metric.{IsSheet};
 ghost use Rattle.bp_metric.specs.Samples.{is_sample, letters};
 
 use crate::found::Found;
+use crate::held::HeldLine;
 use crate::stack::Stack;
-use crate::{Reason, Verdict, check, checks_without_reason, has_reason, law_of_checks, one_reason};
-use bp_base::{Axis, Chain, Claim, Floor, Name, Pair, Point, Refutation, Sequence, Sheet, Tree};
-use bp_document::{Document, NodeKind, NodeLine};
+use crate::{
+    CheckFault, Reason, Verdict, check, checks_without_reason, has_reason, law_of_checks,
+    one_reason,
+};
+use bp_base::{
+    Axis, Chain, Claim, Floor, Name, NoMemory, Pair, Point, Refutation, Sequence, Sheet, Tree,
+};
+use bp_document::{DocFault, DocKind, Document, NodeKind, NodeLine};
 use bp_metric::Metric;
 use sqlite_items::Items;
 use std::alloc::Global;
@@ -462,6 +468,34 @@ fn line_by_line(rt: HostRuntime) -> Result<(), Fail> {
     for (right, left_out, end, wanted) in rows {
         let proof = nine(alloc, right, left_out, end)?;
         assert_eq!(rt; fed(alloc, &metric, &proof)?, wanted);
+    }
+    Ok(())
+}
+
+#[test]
+fn long_lines(rt: HostRuntime) -> Result<(), Fail> {
+    let mut line = HeldLine::empty();
+    for _ in 0..600 {
+        line.push(120);
+    }
+    assert_eq!(rt; line.as_slice().len(), 513);
+    line.clear();
+    line.push(49);
+    assert_eq!(rt; line.as_slice(), b"1".as_slice());
+    let faults = [
+        (
+            CheckFault::Doc(DocFault {
+                line: 3,
+                kind: DocKind::BadForm,
+            }),
+            "line 3: BadForm",
+        ),
+        (CheckFault::Read, "a read failed"),
+        (CheckFault::from(NoMemory), "no memory"),
+    ];
+    for (fault, text) in &faults {
+        let told = format!(in rt.alloc(); "{fault}")?;
+        assert_eq!(rt; told.as_str(), *text);
     }
     Ok(())
 }
