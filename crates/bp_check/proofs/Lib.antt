@@ -1,1 +1,13 @@
 mod Worked
+pub mod Tested
+pub mod Joined
+pub mod Kept
+pub mod Claims
+pub mod Reading
+pub mod Walking
+pub mod Judging
+pub mod Reasoning
+pub mod Right
+pub mod Deciding
+pub mod Taking
+pub mod HeldLines

@@ -1,6 +1,19 @@
 //! What a right design is: the conditions that a checker tests, the first of them that fails, and what `design` writes.
 #![tactic(auto)]
 
+mod checking;
+mod fault;
+mod found;
+mod held;
+mod laws;
+mod stack;
 mod verdict;
+mod walk;
 
+pub use checking::check;
+pub use fault::{CheckFault, Streamed};
+pub use laws::{checks_without_reason, has_reason, law_of_checks, one_reason};
 pub use verdict::{Reason, Verdict};
+
+#[cfg(test)]
+mod tests;
