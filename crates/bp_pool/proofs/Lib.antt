@@ -7,3 +7,4 @@ mod Makes
 mod Lays
 mod Rows
 mod Parts
+pub mod Ordered

@@ -15,7 +15,7 @@ use Rattle.bp_pool.specs.Shares.{pushed_of, taken_of, count_of, facts_of}
 use Rattle.bp_pool.specs.Rest.{DequeId, PoolView}
 use Rattle.bp_pool.specs.Hands.{HandView}
 use Rattle.bp_pool.specs.Kept.{hand_view, taken_by, deque_of, deques_of, each_of, total_of, given_to, IsTheft, IsHand, Deque}
-use Rattle.bp_pool.specs.Rows.{IsOf, rights_at, pushed_in, taken_in, IsWhole, IsOwn, IsParted, IsParts, all_given, all_pushed, all_taken, hands_pushed, hands_taken}
+use Rattle.bp_pool.specs.Rows.{IsOf, rights_at, pushed_in, taken_in, IsInOrder, IsOwn, IsParted, IsParts, all_given, all_pushed, all_taken, hands_pushed, hands_taken}
 use Rattle.bp_base.specs.Bags.{AreSame}
 use Rattle.bp_pool.specs.declared.deque.Facts.{Facts}
 use Rattle.bp_pool.specs.Rows.{AreOwners, IsFull, counts_of, pushed_by_all, taken_by_all}
@@ -126,7 +126,7 @@ module _ (pool : PoolView) (v : HandView) (k : ℕ) (own : Deque) (held : List T
 zero_times : (e : ℕ) → 0 ≡ 0 * e
 zero_times e = omega arith
 
-pub parted_first : (pool : PoolView) (all : List HandView) (us : List Deque) (ts : List Theft) → us ≡ [] → ts ≡ [] → IsWhole pool all → IsParted pool all all us ts
+pub parted_first : (pool : PoolView) (all : List HandView) (us : List Deque) (ts : List Theft) → us ≡ [] → ts ≡ [] → IsInOrder pool all → IsParted pool all all us ts
 parted_first pool all us ts no_us no_ts whole = subst (IsParted pool all all us) (sym no_ts) (subst (λ (l : List Deque). IsParted pool all all l []) (sym no_us) (record {
   count = omega (arith, whole.count);
   prefix = λ k d lt. refl;
@@ -146,7 +146,7 @@ times : (n e : ℕ) → suc n * e ≡ n * e + e
 times n e = grind arith
 
 pub parted_more : (pool : PoolView) (left rest all : List HandView) (v : HandView) (us us' : List Deque) (ts ts' : List Theft) (own : Deque) (held : List Theft)
-    → left ≡ rest ++ v ∷ [] → us' ≡ own ∷ us → ts' ≡ ts ++ held → IsParts v own held → IsWhole pool all → IsParted pool left all us ts → IsParted pool rest all us' ts'
+    → left ≡ rest ++ v ∷ [] → us' ≡ own ∷ us → ts' ≡ ts ++ held → IsParts v own held → IsInOrder pool all → IsParted pool left all us ts → IsParted pool rest all us' ts'
 parted_more pool left rest all v us us' ts ts' own held is more_us more_ts parts whole was =
     let sh = shorter all rest left v is was.prefix in
     let len : length left ≡ length rest + 1 = omega (arith, ap length is, length-append rest (v ∷ [])) in
@@ -264,7 +264,7 @@ module _ (pool : PoolView) (all : List HandView) (us ws : List Deque) (ts : List
   pub are_of_us : All (IsOf (ids_of us)) ts
   are_of_us = subst (λ (l : List DequeId). All (IsOf l) ts) (sym same_ids) parted.thefts_are
 
-  module _ (whole : IsWhole pool all) (owners : AreOwners ws × (ids_of ws ≡ ids_of us) × (all_facts ws ≡ all_facts us)) where
+  module _ (whole : IsInOrder pool all) (owners : AreOwners ws × (ids_of ws ≡ ids_of us) × (all_facts ws ≡ all_facts us)) where
     some : 0 < length pool.deques
     some = omega (arith, whole.some, whole.count)
 

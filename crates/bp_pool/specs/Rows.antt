@@ -3,6 +3,7 @@ use Rattle.std.specs.Prelude.{◌≡◌, ℕ, ◌+◌, ◌-◌, ◌*◌, ◌<◌
 use Rattle.std.specs.List.{sum_by, flat_map}
 use Rattle.crossbeam_deque.specs.Handles.{view, IsPassOf, worker_deque, worker_view, worker_flavor}
 use Rattle.bp_base.specs.declared.record.Task.{Task}
+use Rattle.bp_base.specs.Bags.{AreSame}
 use Rattle.bp_pool.specs.declared.hand.Theft.{Theft}
 use Rattle.bp_pool.specs.Shares.{count_of, pushed_of, taken_of, Works, HasAll, facts_of}
 use Rattle.bp_pool.specs.Rest.{DequeId, PoolView}
@@ -63,8 +64,14 @@ count_pushed all = sum_by (λ (v : HandView). length v.pushed) all
 abbrev pub count_taken : List HandView → ℕ
 count_taken all = sum_by (λ (v : HandView). length v.taken) all
 
--- these are all hands of the pool, in the order of their numbers
+-- these are all hands of the pool, in whatever order
 pub record IsWhole (pool : PoolView) (all : List HandView) : Type 0 where
+  pub some : 0 < length all
+  pub of_pool : All (λ (v : HandView). v.pool ≡ pool) all
+  pub numbers : AreSame (map (λ (v : HandView). v.number) all) (range_with_len 1 (length pool.deques))
+
+-- these are all hands of the pool, in the order of their numbers
+pub record IsInOrder (pool : PoolView) (all : List HandView) : Type 0 where
   pub some : 0 < length all
   pub count : length all ≡ length pool.deques
   pub each : (k : ℕ) (d : HandView) → k < length all → ((slice_index_or all k d).pool ≡ pool) × ((slice_index_or all k d).number ≡ k + 1)

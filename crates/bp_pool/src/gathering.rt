@@ -1,6 +1,7 @@
 //! All hands come back: what is left.
 ghost use Rattle.std.specs.Prelude.{◌≡◌, ℕ, ◌+◌, ◌<◌, ◌≤◌, min, List, [], ◌∷◌, ◌++◌, length, All, slice_index, IfOk};
 ghost use Rattle.std.specs.List.{sum_by, flat_map};
+ghost use Rattle.std.specs.List.Sorted.{IsPermutation};
 ghost use Rattle.crossbeam_deque.specs.Handles.{worker_view};
 ghost use Rattle.bp_base.specs.Bags.{AreSame};
 ghost use Rattle.bp_base.specs.declared.record.Task.{Task};
@@ -9,7 +10,7 @@ ghost use Rattle.bp_pool.specs.Rest.{PoolView};
 ghost use Rattle.bp_pool.specs.Hands.{top};
 ghost use Rattle.bp_pool.specs.Kept.{Deque};
 ghost use Rattle.bp_pool.specs.Opens.{ids_of, all_facts};
-ghost use Rattle.bp_pool.specs.Rows.{counts_of, all_given, all_pushed, all_taken, AreOwners, IsFull, IsOf, rights_at, pushed_in, taken_in, IsWhole, IsParted, count_pushed, count_taken, pushed_by_all, taken_by_all};
+ghost use Rattle.bp_pool.specs.Rows.{counts_of, all_given, all_pushed, all_taken, AreOwners, IsFull, IsOf, rights_at, pushed_in, taken_in, IsInOrder, IsWhole, IsParted, count_pushed, count_taken, pushed_by_all, taken_by_all};
 
 use crate::deque::{Owner, drain, take_back};
 use crate::hand::{Hand, Theft};
@@ -24,10 +25,18 @@ pub struct Gathered {
     pub left: Vec<Task>,
 }
 
-// The owners and the passes of all hands.
+// Puts all hands in the order of their numbers.
+fn arrange(hands: &mut Vec<Hand>)
+    ensures same { IsPermutation hands.old.items hands.new.items }
+    ensures order { (pool : PoolView) → IsWhole pool hands.old.items → IsInOrder pool hands.new.items }
+{
+    hands.sort_unstable_by_key(|hand| hand.own_number());
+}
+
+// The owners and the passes of all hands, which stand in the order of their numbers.
 fn part(alloc: Global, mut hands: Vec<Hand>) -> Result<(Vec<Owner>, Vec<Theft>), NoMemory>
-    requires { (pool : PoolView) × IsWhole pool hands.items }
-    ensures { IfOk result (λ r. (pool : PoolView) → IsWhole pool hands.items → IsParted pool [] hands.items r.0.items r.1.items) }
+    requires { (pool : PoolView) × IsInOrder pool hands.items }
+    ensures { IfOk result (λ r. (pool : PoolView) → IsInOrder pool hands.items → IsParted pool [] hands.items r.0.items r.1.items) }
 {
     let mut owners = Vec::new(alloc);
     let mut thefts = Vec::new(alloc);
@@ -81,8 +90,8 @@ fn count_all(hands: &[Hand]) -> (u64, u64)
     (pushed, taken)
 }
 
-/// All hands come back. What they took and what is left are together the root and what they pushed, each as often.
-pub fn gather(alloc: Global, hands: Vec<Hand>) -> Result<Gathered, NoMemory>
+/// All hands of a pool come back, in whatever order. What they took and what is left are together the root and what they pushed, each as often.
+pub fn gather(alloc: Global, mut hands: Vec<Hand>) -> Result<Gathered, NoMemory>
     requires { (pool : PoolView) × IsWhole pool hands.items }
     ensures same { IfOk result (λ g. (pool : PoolView) → IsWhole pool hands.items → AreSame (pool.root ∷ pushed_by_all hands.items) (taken_by_all hands.items ++ g.left.items)) }
     ensures good { IfOk result (λ g. (pool : PoolView) → IsWhole pool hands.items → All (IsTaskOf pool.leaves) g.left.items) }
@@ -90,6 +99,7 @@ pub fn gather(alloc: Global, hands: Vec<Hand>) -> Result<Gathered, NoMemory>
     ensures taken { IfOk result (λ g. g.taken ≡ min (length (taken_by_all hands.items)) top) }
 {
     let (pushed, taken) = count_all(hands.as_slice());
+    arrange(&mut hands);
     let (mut owners, thefts) = part(alloc, hands)?;
     absorb(&mut owners, thefts);
     let left = drain_all(alloc, owners)?;

@@ -1,4 +1,7 @@
 ghost use Rattle.std.specs.Prelude.{◌≡◌, ◌<◌, ◌≤◌, [], All, IfOk, length};
+ghost use Rattle.bp_base.specs.declared.record.Task.{Task as AnyTask};
+ghost use Rattle.bp_pool.specs.Hands.{IsSameHand};
+ghost use Rattle.bp_pool.specs.Opens.{IsNewPool};
 ghost use Rattle.bp_pool.specs.Shares.{IsTaskOf};
 
 use super::*;
@@ -31,13 +34,13 @@ fn bound_of(taken: Take) -> u64 {
 // Adds a task. Answers false where there was no room.
 fn add(alloc: Global, hand: &mut Hand, leaves: u64, bound: u64) -> bool
     requires { hand.old.pool.leaves ≡ leaves }
-    ensures { hand.new.pool.leaves ≡ leaves }
+    ensures { IsSameHand hand.old hand.new }
 {
     hand.push(task(alloc, leaves, bound)).is_ok()
 }
 
 fn next(hand: &mut Hand) -> u64
-    ensures { hand.new.pool.leaves ≡ hand.old.pool.leaves }
+    ensures { IsSameHand hand.old hand.new }
 {
     bound_of(hand.take())
 }
@@ -45,6 +48,7 @@ fn next(hand: &mut Hand) -> u64
 // One thread: the first hand takes the root, and pushes and takes; the second steals.
 fn turns(alloc: Global, a: &mut Hand, b: &mut Hand, leaves: u64) -> [u64; 6]
     requires { a.old.pool.leaves ≡ leaves }
+    ensures { IsSameHand a.old a.new × IsSameHand b.old b.new }
 {
     let root = next(a);
     let room = add(alloc, a, leaves, 11);
@@ -54,22 +58,29 @@ fn turns(alloc: Global, a: &mut Hand, b: &mut Hand, leaves: u64) -> [u64; 6]
     [root, room as u64, more as u64, newest, oldest, next(b)]
 }
 
-fn run_two(alloc: Global, hands: &mut Vec<Hand>, leaves: u64) -> [u64; 6]
-    requires { All (λ h. h.pool.leaves ≡ leaves) hands.old.items }
+// The same, and then both come back, the second one first: how many tasks they pushed and took, and how many are left.
+fn run_two(alloc: Global, mut hands: Vec<Hand>) -> Result<([u64; 6], [u64; 3]), Fail>
+    requires { (root : AnyTask) × IsNewPool 2 4 root hands.items }
 {
     let Some(mut b) = hands.pop() else {
-        return [0; 6];
+        return Err(Fail::from("no hand"));
     };
     let Some(mut a) = hands.pop() else {
-        return [0; 6];
+        return Err(Fail::from("one hand"));
     };
-    turns(alloc, &mut a, &mut b, leaves)
+    let bounds = turns(alloc, &mut a, &mut b, 4);
+    let back = Vec::from_array(alloc, [b, a])?;
+    let gathered = gather(alloc, back)?;
+    let counts = [gathered.pushed, gathered.taken, gathered.left.len() as u64];
+    Ok((bounds, counts))
 }
 
 #[test]
 fn two_hands(rt: HostRuntime) -> Result<(), Fail> {
-    let mut hands = open(rt.alloc(), 2, 4, task(rt.alloc(), 4, 10))?;
-    assert!(rt; run_two(rt.alloc(), &mut hands, 4) == [10, 1, 1, 12, 11, 0]);
+    let hands = open(rt.alloc(), 2, 4, task(rt.alloc(), 4, 10))?;
+    let (bounds, counts) = run_two(rt.alloc(), hands)?;
+    assert!(rt; bounds == [10, 1, 1, 12, 11, 0]);
+    assert!(rt; counts == [3, 3, 0]);
     Ok(())
 }
 
