@@ -1,4 +1,4 @@
 mod Best
-mod Branches
-mod Picked
-mod Solved
+pub mod Branches
+pub mod Picked
+pub mod Solved
