@@ -1,0 +1,7 @@
+mod Beginnings
+mod Ended
+mod Forced
+mod Lists
+mod Pushed
+mod Small
+mod Turned

@@ -1,0 +1,12 @@
+use Rattle.std.proofs.Common.{◌≡◌, ◌-◌}
+use Rattle.bp_core.specs.Underway.{IsUnderway}
+use Rattle.bp_stack.proofs.searching.search.Given as goal
+
+abbrev pub invariant-loop-search : goal.invariant-loop-search
+invariant-loop-search l = record {
+  warm : l.warm.metric ≡ l.metric;
+  underway : IsUnderway l.metric.tree l.metric.sheet l.budget l.search;
+}
+
+abbrev pub decreases-loop-search : goal.decreases-loop-search
+decreases-loop-search l = l.budget - l.search.examined

@@ -1,0 +1,12 @@
+//! The search worked off one plain stack, on the calling thread.
+#![tactic(auto)]
+
+mod beginning;
+mod children;
+mod searching;
+#[cfg(test)]
+mod tests;
+mod turns;
+
+pub use beginning::begin;
+pub use searching::search;

@@ -1,0 +1,103 @@
+// One turn: a branch is examined.
+ghost use Rattle.std.specs.Prelude.{◌≡◌, ◌+◌, ◌<◌, ◌≤◌, ◌++◌, ◌∷◌, [], length, IfOk, OnOk};
+ghost use Rattle.bp_base.specs.declared.path.Pair.{Pair as AnyPair};
+ghost use Rattle.bp_base.specs.Limits.{most_leaves, most_number, most_steps};
+ghost use Rattle.bp_base.specs.Tree.{leaf_count};
+ghost use Rattle.bp_metric.specs.Coordinates.{IsLeast};
+ghost use Rattle.bp_metric.specs.Metric.{MetricValue};
+ghost use Rattle.bp_metric.specs.Next.{IsNextPair};
+ghost use Rattle.bp_branch.specs.Branches.{IsBranch};
+ghost use Rattle.bp_branch.specs.Outcomes.{IsCyclic, IsOutcome};
+ghost use Rattle.bp_warm.specs.Warm.{WarmValue, pair_count};
+ghost use Rattle.bp_stack.specs.Turns.{Follows, IsOnItsWay, IsTaken};
+
+use crate::children::push_children;
+use bp_base::{Least, NoMemory, Outcome, Record, RecordKind, Settled, Task};
+use bp_branch::{judge, low_points};
+use bp_metric::Metric;
+use bp_pairs::allowed;
+use bp_warm::Warm;
+use std::alloc::Global;
+
+// What the branch is against its bound. A branch has no cycle.
+fn judged(metric: &Metric, warm: &mut Warm, task: &Task) -> Outcome
+    requires warm { warm.old.metric ≡ metric.now }
+    requires branch { IsBranch metric.now.tree task.now.path }
+    requires short { length task.now.path ≤ pair_count metric.now.tree }
+    requires bound { task.now.bound ≤ most_number }
+    ensures warm { warm.new ≡ record { metric = metric.now; path = task.now.path } }
+    ensures outcome { IsOutcome metric.now.tree metric.now.sheet task.now.path task.now.bound result }
+    ensures no_cycle { IsCyclic result → ⊥ }
+{
+    match warm.go_to(metric, &task.path) {
+        Some(_) => unreachable!(),
+        None => judge(metric, warm.least(), task.bound),
+    }
+}
+
+// Takes what follows of an outcome into the search, and gives the kind of the branch's record.
+fn follow(
+    alloc: Global,
+    metric: &Metric,
+    least: &Least,
+    search: &mut Settled,
+    task: &Task,
+    outcome: Outcome,
+) -> Result<RecordKind, NoMemory>
+    requires least { IsLeast metric.now.tree metric.now.sheet task.now.path least.now }
+    requires outcome { IsOutcome metric.now.tree metric.now.sheet task.now.path task.now.bound outcome }
+    requires no_cycle { IsCyclic outcome → ⊥ }
+    requires few { leaf_count metric.now.tree ≤ most_leaves }
+    requires room { (p : AnyPair) → IsNextPair metric.now.tree task.now.path p → length task.now.path < most_steps }
+    ensures { IfOk result (λ kind. Follows metric.now.tree metric.now.sheet task.now least.now outcome kind search.old search.new) }
+{
+    match outcome {
+        Outcome::Cyclic(_) => unreachable!(),
+        Outcome::Closed(claim) => Ok(RecordKind::Closed { claim }),
+        Outcome::Solved { side, claim } => {
+            search.points = low_points(alloc, least)?;
+            search.side = side;
+            Ok(RecordKind::Closed { claim })
+        }
+        Outcome::Split(pair) => {
+            let choices = allowed(metric, pair);
+            push_children(alloc, &mut search.left, task, pair, choices)?;
+            Ok(RecordKind::Split { pair })
+        }
+    }
+}
+
+/// Examines the branch in hand: it gets the next ticket and a record, and the search goes on with what follows of it.
+pub fn work_on(
+    alloc: Global,
+    metric: &Metric,
+    warm: &mut Warm,
+    search: &mut Settled,
+    task: Task,
+) -> Result<(), NoMemory>
+    requires warm { warm.old.metric ≡ metric.now }
+    requires taken { IsTaken metric.now.tree metric.now.sheet search.old task }
+    requires ticket { search.old.examined < u64.MAX }
+    ensures warm { warm.new.metric ≡ metric.now }
+    ensures underway { OnOk result (IsOnItsWay metric.now.tree metric.now.sheet search.new) }
+    ensures ticket { OnOk result (search.new.examined ≡ search.old.examined + 1) }
+{
+    let _leaves = metric.leaves();
+    let given = task.bound;
+    let task = Task {
+        path: task.path,
+        bound: given.min(search.side),
+    };
+    let outcome = judged(metric, warm, &task);
+    let kind = follow(alloc, metric, warm.least(), search, &task, outcome)?;
+    let Task { path, bound } = task;
+    search.records.push(Record {
+        path,
+        kind,
+        ticket: search.examined,
+        given,
+        bound,
+    })?;
+    search.examined += 1;
+    Ok(())
+}
