@@ -1,5 +1,5 @@
 // Node lines, each at a depth that fits behind the line before it.
-ghost use Rattle.std.specs.Prelude.{◌≡◌, ◌≤◌, ◌↔◌, true, IsTrue};
+ghost use Rattle.std.specs.Prelude.{◌≡◌, ◌≤◌, ◌↔◌, ℕ, true, IsTrue, Option};
 ghost use Rattle.bp_base.specs.Limits.{most_number};
 ghost use Rattle.bp_document.specs.Faults.{FeedsNode};
 ghost use Rattle.bp_document.specs.Places.{DepthFits, deepest};
@@ -57,7 +57,7 @@ pub fn step_node(
     ensures { Steps (Stage.Nodes head left most) bytes.now true result }
 {
     if left == 0 {
-        return step_end(head, bytes, most);
+        return step_end(head, bytes);
     }
     match next_node(alloc, most, bytes) {
         Err(kind) => Err(Fall {
@@ -76,10 +76,9 @@ pub fn step_node(
 }
 
 // The line `end`.
-fn step_end(head: Head, bytes: &[u8], most: Option<u64>) -> Result<Step, Fall>
-    ensures { Steps (Stage.Nodes head 0 most) bytes.now true result }
+fn step_end(head: Head, bytes: &[u8]) -> Result<Step, Fall>
+    ensures { (most : Option ℕ) → Steps (Stage.Nodes head 0 most) bytes.now true result }
 {
-    let _ = most;
     if bytes == b"end".as_slice() {
         return Ok(Step {
             stage: Stage::Behind { head },
