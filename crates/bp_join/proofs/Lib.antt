@@ -1,0 +1,5 @@
+mod Sums
+mod Orders
+mod Parted
+mod Takings
+mod Joins
