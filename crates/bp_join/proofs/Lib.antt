@@ -3,3 +3,4 @@ mod Orders
 mod Parted
 mod Takings
 mod Joins
+mod Searching

@@ -1,3 +1,4 @@
 pub mod Entries
 pub mod Trees
 pub mod Joined
+pub mod Searches

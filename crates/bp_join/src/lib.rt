@@ -6,3 +6,6 @@ mod entry;
 mod joining;
 
 pub use joining::join;
+
+#[cfg(test)]
+mod tests;
