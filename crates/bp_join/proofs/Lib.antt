@@ -4,3 +4,4 @@ mod Parted
 mod Takings
 mod Joins
 mod Searching
+mod Worked

@@ -47,7 +47,7 @@ opens_more T G ts t before now e after adds one is = record {
 -- Nodes of a refutation at a path.
 
 module _ (T : TreeValue) (G : Sheet) where
-  nodes-split : (p : Pair) (rs : List Refutation) (path : List Step) → nodes_from T G (Split p rs) path ≡ (record { path = path; part = SplitOf p (length rs) }) ∷ child_nodes path p (allowed T G p) (map (nodes_from T G) rs)
+  pub nodes-split : (p : Pair) (rs : List Refutation) (path : List Step) → nodes_from T G (Split p rs) path ≡ (record { path = path; part = SplitOf p (length rs) }) ∷ child_nodes path p (allowed T G p) (map (nodes_from T G) rs)
   unfolding nodes_from
   nodes-split p rs path =
       let e = fold-roll-Refutation (List Step → List Node) (nodes_at T G) (Refutation-F.Split p rs) in
@@ -60,7 +60,7 @@ module _ (T : TreeValue) (G : Sheet) where
       let e = fold-roll-Refutation (List Step → List Node) (nodes_at T G) (Refutation-F.Closed claim) in
       ap (λ r. nodes_from T G r path) (sym (rolls-Closed claim)) ∙ (λ i. e i path)
 
-  nodes-open : (claim : Claim) (path : List Step) → nodes_from T G (Open claim) path ≡ (record { path = path; part = OpenBy claim }) ∷ []
+  pub nodes-open : (claim : Claim) (path : List Step) → nodes_from T G (Open claim) path ≡ (record { path = path; part = OpenBy claim }) ∷ []
   unfolding nodes_from
   nodes-open claim path =
       let e = fold-roll-Refutation (List Step → List Node) (nodes_at T G) (Refutation-F.Open claim) in
