@@ -272,6 +272,25 @@ fn goes(alloc: Global, metric: &Metric, warm: &mut Warm, steps: &[Step]) -> Resu
     Ok(warm.go_to(metric, &path).is_none())
 }
 
+// Goes from path to path, and compares each with least coordinates from scratch.
+fn go_along(
+    rt: &impl Abort,
+    alloc: Global,
+    metric: &Metric,
+    warm: &mut Warm,
+    paths: &[&[Step]],
+) -> Result<(), Fail>
+    requires { metric.now ≡ warm.old.metric }
+    ensures { warm.new.metric ≡ warm.old.metric }
+{
+    for steps in paths {
+        assert!(rt; goes(alloc, metric, warm, steps)?);
+        assert_eq!(rt; warm.len(), steps.len() as u64);
+        is_warm(rt, alloc, metric, warm, steps)?;
+    }
+    Ok(())
+}
+
 #[test]
 fn from_path_to_path(rt: HostRuntime) -> Result<(), Fail> {
     let alloc = rt.alloc();
@@ -288,11 +307,7 @@ fn from_path_to_path(rt: HostRuntime) -> Result<(), Fail> {
         &[],
         &[left_of(2, 3)],
     ];
-    for steps in paths {
-        assert!(rt; goes(alloc, &metric, &mut warm, steps)?);
-        assert_eq!(rt; warm.len(), steps.len() as u64);
-        is_warm(&rt, alloc, &metric, &warm, steps)?;
-    }
+    go_along(&rt, alloc, &metric, &mut warm, &paths)?;
     let cycle = [left_of(1, 2), left_of(2, 3), right];
     assert!(rt; !goes(alloc, &metric, &mut warm, &cycle)?);
     Ok(())
