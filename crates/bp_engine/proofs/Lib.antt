@@ -3,3 +3,7 @@ mod Designs
 mod Reported
 mod OptionLemmas
 mod WordLemmas
+mod Weights
+mod SameNodes
+mod ShownCounts
+mod NodeParts

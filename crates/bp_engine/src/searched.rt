@@ -1,0 +1,1 @@
+// From a search to the document that is written of it.
