@@ -7,3 +7,6 @@ mod Weights
 mod SameNodes
 mod ShownCounts
 mod NodeParts
+mod FoundNodes
+mod Covered
+mod Searches

@@ -5,9 +5,10 @@ use Rattle.bp_base.specs.declared.point.Floor.{Floor}
 use Rattle.bp_base.specs.declared.point.Placement.{Placement}
 use Rattle.bp_base.specs.declared.point.Sheet.{Sheet}
 use Rattle.bp_base.specs.declared.refutation.Refutation.{Refutation}
-use Rattle.bp_base.specs.Limits.{most_budget}
+use Rattle.bp_base.specs.Limits.{most_number}
 use Rattle.bp_base.specs.Tree.{TreeValue}
 use Rattle.bp_floor.specs.Small as limits
+use Rattle.bp_opening.specs.Small.{IsSmall as IsSmallOpening}
 use Rattle.bp_metric.specs.Floor.{FloorHolds, IsFloor}
 use Rattle.bp_metric.specs.Opening.{IsOpening, side_of}
 use Rattle.bp_metric.specs.Refutation.{Fits}
@@ -30,6 +31,11 @@ pub record IsFloorOf (T : TreeValue) (G : Sheet) (f : Floor) : Type 0 where
 pub record IsOpeningOf (T : TreeValue) (G : Sheet) (p : Placement) : Type 0 where
   pub opening : IsOpening T G p.points
   pub side : p.side ≡ side_of G p.points
+  pub small : IsSmallOpening p
+
+-- a side can be told in a document, and is above that of the floor
+abbrev pub IsAbove : Floor → ℕ → Type 0
+IsAbove f side = (f.side < side) × (side ≤ most_number)
 
 -- the document is written for the tree on this sheet with this budget, and where the budget is at least the number of the stated tree's
 -- paths no smaller sheet will do
