@@ -100,3 +100,6 @@ fn bound_of(side: u64, floor: u64, weight: Option<u64>) -> u64
         Some(weight) => side.min(floor.max(weight)),
     }
 }
+
+#[cfg(test)]
+mod tests;
