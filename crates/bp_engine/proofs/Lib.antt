@@ -3,3 +3,10 @@ mod Designs
 mod Reported
 mod OptionLemmas
 mod WordLemmas
+mod Weights
+mod SameNodes
+mod ShownCounts
+mod NodeParts
+mod FoundNodes
+mod Covered
+mod Searches

@@ -5,9 +5,11 @@ mod command;
 mod design;
 mod options;
 mod reading;
+mod searched;
 mod status;
 mod tell;
 mod text;
+mod weighing;
 mod words;
 
 pub use command::run;
