@@ -1,5 +1,7 @@
 mod SourceReads
 mod Designs
 mod Reported
+mod Answered
+mod Drawn
 mod OptionLemmas
 mod WordLemmas

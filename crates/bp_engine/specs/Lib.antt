@@ -2,3 +2,4 @@ pub mod Words
 pub mod Reading
 pub mod Texts
 pub mod Run
+pub mod Documents
