@@ -1,6 +1,8 @@
 mod SourceReads
 mod Designs
 mod Reported
+mod Answered
+mod Drawn
 mod OptionLemmas
 mod WordLemmas
 mod Weights

@@ -1,5 +1,5 @@
 -- What was read and written, from what was written for the bytes.
-use Rattle.std.proofs.Common.{min, inl, inr, ◌≡◌, ◌≤◌, ℕ, List, length, take, drop, ap, subst, sym, ◌∙◌, arith}
+use Rattle.std.proofs.Common.{min, inl, inr, ◌≡◌, ◌≤◌, ◌+◌, ℕ, [], List, length, take, drop, ap, subst, sym, ◌∙◌, arith}
 use Rattle.std.specs.declared.option.Option.{Option}
 use Rattle.std.specs.declared.option.Option.TheVariants.{None, Some}
 use Rattle.std.proofs.lemmas.List.{take_all, length-take}
@@ -10,55 +10,63 @@ use Rattle.bp_base.specs.declared.point.Sheet.{Sheet}
 use Rattle.bp_base.specs.Tree.{TreeValue}
 use Rattle.bp_tree.specs.Text.{TreeOf}
 use Rattle.bp_engine.specs.declared.status.Status.{Status}
-use Rattle.bp_engine.specs.declared.status.Status.TheVariants.{Done, TreeRefused, Usage, ReadFault, WriteFault, NoMemory, NotBuilt}
-use Rattle.bp_engine.specs.Reading.{HasRead, IsRead}
-use Rattle.bp_engine.specs.Run.{Told, IsRefused, ReadsTree, WritesDesign, DesignsBytes, Designs, most_read}
+use Rattle.bp_engine.specs.declared.status.Status.TheVariants.{Done, TreeRefused, DocRefused, Usage, ReadFault, WriteFault, NoMemory, No, NotBuilt}
+use Rattle.bp_engine.specs.Reading.{HasRead, IsRead, Told}
+use Rattle.bp_engine.specs.Run.{IsRefused, ReadsTree, WritesDesign, DesignsBytes, Designs, most_read}
 
--- where the first 65,537 bytes are a tree's, they are all
-whole : (l bytes : List ℕ) (T : TreeValue) → bytes ≡ take most_read l → TreeOf bytes T → bytes ≡ l
-whole l bytes T is tree = is ∙ take_all most_read l (omega (arith, ap length is, tree.short, length-take most_read l))
+-- where the first `most` bytes are fewer than that, they are all
+whole : (most : ℕ) (l bytes : List ℕ) → bytes ≡ take most l → length bytes + 1 ≤ most → bytes ≡ l
+whole most l bytes is short = is ∙ take_all most l (omega (arith, ap length is, short, length-take most l))
 
-reads : (left after : Option (List ℕ)) (bytes : List ℕ) (T : TreeValue) → IsRead most_read left bytes → HasRead left after bytes → TreeOf bytes T → ReadsTree left after T
-reads None after bytes T is has tree = tt
-reads (Some l) after bytes T is has tree =
-    let same = whole l bytes T is tree in (
-      subst (λ (b : List ℕ). TreeOf b T) same tree,
+pub read_whole : (most : ℕ) (left after : Option (List ℕ)) (bytes : List ℕ) (P : List ℕ → Type 0) → IsRead most left bytes → HasRead left after bytes → length bytes + 1 ≤ most → P bytes → Told left (λ b. P b × (after ≡ Some []))
+read_whole most None after bytes P is has short p = tt
+read_whole most (Some l) after bytes P is has short p =
+    let same = whole most l bytes is short in (
+      subst P same p,
       has.0 ∙ ap (λ (t : List ℕ). Some t) (ap (λ (b : List ℕ). drop (length b) l) same ∙ drop-length l),
     )
 
+reads : (left after : Option (List ℕ)) (bytes : List ℕ) (T : TreeValue) → IsRead most_read left bytes → HasRead left after bytes → TreeOf bytes T → ReadsTree left after T
+reads left after bytes T is has tree =
+    read_whole most_read left after bytes (λ (b : List ℕ). TreeOf b T) is has (omega (arith, tree.short)) tree
+
 -- what is left after the bytes that were read, or after as many as may be read
-same_rest : (l : List ℕ) (k : ℕ) → k ≡ min most_read (length l) → drop k l ≡ drop most_read l
-same_rest l k is = elim (cases_lt most_read (length l)) [
+same_rest : (most : ℕ) (l : List ℕ) (k : ℕ) → k ≡ min most (length l) → drop k l ≡ drop most l
+same_rest most l k is = elim (cases_lt most (length l)) [
   | inl less ↦
-      let same : k ≡ most_read = omega (arith, is, less) in
+      let same : k ≡ most = omega (arith, is, less) in
       ap (λ (n : ℕ). drop n l) same
   | inr within ↦
       let past : length l ≤ k = omega (arith, is, within) in
       drop_of_length-le l past ∙ sym (drop_of_length-le l within)
 ]
 
-refused : (left after : Option (List ℕ)) (bytes : List ℕ) (P : List ℕ → Type 0) → IsRead most_read left bytes → HasRead left after bytes → P bytes → Told left (λ b. P (take most_read b) × (after ≡ Some (drop most_read b)))
-refused None after bytes P is has p = tt
-refused (Some l) after bytes P is has p =
-    let long : length bytes ≡ min most_read (length l) = ap length is ∙ length-take most_read l in
-    (subst P is p, has.0 ∙ ap (λ (t : List ℕ). Some t) (same_rest l (length bytes) long))
+pub refused : (most : ℕ) (left after : Option (List ℕ)) (bytes : List ℕ) (P : List ℕ → Type 0) → IsRead most left bytes → HasRead left after bytes → P bytes → Told left (λ b. P (take most b) × (after ≡ Some (drop most b)))
+refused most None after bytes P is has p = tt
+refused most (Some l) after bytes P is has p =
+    let long : length bytes ≡ min most (length l) = ap length is ∙ length-take most l in
+    (subst P is p, has.0 ∙ ap (λ (t : List ℕ). Some t) (same_rest most l (length bytes) long))
 
 pub reported : (G : Sheet) (B : ℕ) (left after held now : Option (List ℕ)) (bytes : List ℕ) (status : Status) → IsRead most_read left bytes → HasRead left after bytes → DesignsBytes bytes G B held now status → Designs G B left after held now status
 reported G B left after held now bytes Done is has d = (d.0, reads left after bytes d.0 is has d.1, d.2)
-reported G B left after held now bytes (TreeRefused fault) is has d = (refused left after bytes (λ b. IsRefused b fault) is has d.0, d.1)
+reported G B left after held now bytes (TreeRefused fault) is has d = (refused most_read left after bytes (λ b. IsRefused b fault) is has d.0, d.1)
+reported G B left after held now bytes (DocRefused fault) is has d = absurd d
 reported G B left after held now bytes Usage is has d = d
 reported G B left after held now bytes ReadFault is has d = absurd d
 reported G B left after held now bytes WriteFault is has d = (d.0, reads left after bytes d.0 is has d.1, d.2)
 reported G B left after held now bytes NoMemory is has d = d
+reported G B left after held now bytes (No reason) is has d = absurd d
 reported G B left after held now bytes NotBuilt is has d = (d.0, reads left after bytes d.0 is has d.1, d.2)
 
 pub for_bytes : (bytes : List ℕ) (T : TreeValue) (G : Sheet) (B : ℕ) (held now : Option (List ℕ)) (status : Status) → TreeOf bytes T → WritesDesign T G B held now status → DesignsBytes bytes G B held now status
 for_bytes bytes T G B held now Done tree d = (T, tree, d)
 for_bytes bytes T G B held now (TreeRefused fault) tree d = absurd d
+for_bytes bytes T G B held now (DocRefused fault) tree d = absurd d
 for_bytes bytes T G B held now Usage tree d = d
 for_bytes bytes T G B held now ReadFault tree d = d
 for_bytes bytes T G B held now WriteFault tree d = (T, tree, d)
 for_bytes bytes T G B held now NoMemory tree d = d
+for_bytes bytes T G B held now (No reason) tree d = absurd d
 for_bytes bytes T G B held now NotBuilt tree d = (T, tree, d)
 
 -- no other status comes from the bytes

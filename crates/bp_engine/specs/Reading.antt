@@ -12,3 +12,8 @@ HasRead (Some left) now bytes = (now ≡ Some (drop (length bytes) left)) × (by
 abbrev pub IsRead : ℕ → Option (List ℕ) → List ℕ → Type 0
 IsRead most None bytes = Unit {0}
 IsRead most (Some left) bytes = bytes ≡ take most left
+
+-- P holds of the bytes, where they are told
+abbrev pub Told : Option (List ℕ) → (List ℕ → Type 0) → Type 0
+Told None P = Unit {0}
+Told (Some bytes) P = P bytes

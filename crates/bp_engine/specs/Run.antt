@@ -1,5 +1,5 @@
 -- What a run answers, and what it leaves.
-use Rattle.std.specs.Prelude.{◌≡◌, ℕ, ◌+◌, ◌<◌, List, [], take, drop, false}
+use Rattle.std.specs.Prelude.{◌≡◌, ◌⊎◌, ℕ, ◌+◌, ◌<◌, List, [], take, drop, false}
 use Rattle.std.specs.declared.option.Option.{Option}
 use Rattle.std.specs.declared.option.Option.TheVariants.{None, Some}
 use Rattle.bp_base.specs.declared.point.Sheet.{Sheet}
@@ -19,14 +19,10 @@ use Rattle.bp_document.specs.Ranges.{IsDocument}
 use Rattle.bp_document.specs.Text.{doc_text}
 use Rattle.bp_check.specs.Written.{IsWritten, IsWanted}
 use Rattle.bp_engine.specs.declared.status.Status.{Status}
-use Rattle.bp_engine.specs.declared.status.Status.TheVariants.{Done, TreeRefused, Usage, ReadFault, WriteFault, NoMemory, NotBuilt}
+use Rattle.bp_engine.specs.declared.status.Status.TheVariants.{Done, TreeRefused, DocRefused, Usage, ReadFault, WriteFault, NoMemory, No, NotBuilt}
+use Rattle.bp_engine.specs.Reading.{Told}
 use Rattle.bp_engine.specs.declared.words.Words.{Words}
 use Rattle.bp_engine.specs.declared.words.Words.TheVariants.{Design, Check, Contours, Made, Trial, Rewrite, Revise, Pieces}
-
--- P holds of the bytes, where they are told
-abbrev pub Told : Option (List ℕ) → (List ℕ → Type 0) → Type 0
-Told None P = Unit {0}
-Told (Some bytes) P = P bytes
 
 -- a square, or with `--strip` the strip of that width
 abbrev pub sheet_of : Option ℕ → Sheet
@@ -60,10 +56,12 @@ pub record IsDesign (T : TreeValue) (G : Sheet) (B : ℕ) (D : Document) : Type 
 abbrev pub WritesDesign : TreeValue → Sheet → ℕ → Option (List ℕ) → Option (List ℕ) → Status → Type 0
 WritesDesign T G B held now Done = (D : Document) × IsDesign T G B D × Appends held now (doc_text D)
 WritesDesign T G B held now (TreeRefused fault) = ⊥
+WritesDesign T G B held now (DocRefused fault) = ⊥
 WritesDesign T G B held now Usage = ⊥
 WritesDesign T G B held now ReadFault = ⊥
 WritesDesign T G B held now WriteFault = (D : Document) × IsDesign T G B D × AppendsFront held now (doc_text D)
 WritesDesign T G B held now NoMemory = now ≡ held
+WritesDesign T G B held now (No reason) = ⊥
 WritesDesign T G B held now NotBuilt = NeedsSearch T G × (now ≡ held)
 
 -- the bytes are no tree, and this is their first fault
@@ -75,10 +73,12 @@ pub record IsRefused (bytes : List ℕ) (fault : TreeFault) : Type 0 where
 abbrev pub DesignsBytes : List ℕ → Sheet → ℕ → Option (List ℕ) → Option (List ℕ) → Status → Type 0
 DesignsBytes bytes G B held now Done = (T : TreeValue) × TreeOf bytes T × WritesDesign T G B held now Done
 DesignsBytes bytes G B held now (TreeRefused fault) = IsRefused bytes fault × (now ≡ held)
+DesignsBytes bytes G B held now (DocRefused fault) = ⊥
 DesignsBytes bytes G B held now Usage = ⊥
 DesignsBytes bytes G B held now ReadFault = ⊥
 DesignsBytes bytes G B held now WriteFault = (T : TreeValue) × TreeOf bytes T × WritesDesign T G B held now WriteFault
 DesignsBytes bytes G B held now NoMemory = now ≡ held
+DesignsBytes bytes G B held now (No reason) = ⊥
 DesignsBytes bytes G B held now NotBuilt = (T : TreeValue) × TreeOf bytes T × WritesDesign T G B held now NotBuilt
 
 -- as many bytes as are read of a tree: one more than it may have
@@ -95,22 +95,24 @@ abbrev pub Designs : Sheet → ℕ → Option (List ℕ) → Option (List ℕ) �
 Designs G B left after held now Done = (T : TreeValue) × ReadsTree left after T × WritesDesign T G B held now Done
 Designs G B left after held now (TreeRefused fault) =
     Told left (λ b. IsRefused (take most_read b) fault × (after ≡ Some (drop most_read b))) × (now ≡ held)
+Designs G B left after held now (DocRefused fault) = ⊥
 Designs G B left after held now Usage = ⊥
 Designs G B left after held now ReadFault = now ≡ held
 Designs G B left after held now WriteFault = (T : TreeValue) × ReadsTree left after T × WritesDesign T G B held now WriteFault
 Designs G B left after held now NoMemory = now ≡ held
+Designs G B left after held now (No reason) = ⊥
 Designs G B left after held now NotBuilt = (T : TreeValue) × ReadsTree left after T × WritesDesign T G B held now NotBuilt
 
--- what isn't built yet of what the words ask for: every command but `design`, and of `design` drawings and the steady answer
+-- what isn't built yet of what the words ask for: every command but `design`, `contours` and `rewrite`, and of `design` drawings and the steady answer
 abbrev pub IsUnbuilt : Words → Type 0
 IsUnbuilt (Design workers budget replay None strip None) = ⊥
 IsUnbuilt (Design workers budget replay (Some place) strip steady) = Unit {0}
 IsUnbuilt (Design workers budget replay None strip (Some questions)) = Unit {0}
 IsUnbuilt (Check tree) = Unit {0}
-IsUnbuilt Contours = Unit {0}
+IsUnbuilt Contours = ⊥
 IsUnbuilt (Made leaves seed) = Unit {0}
 IsUnbuilt (Trial leaves seed) = Unit {0}
-IsUnbuilt Rewrite = Unit {0}
+IsUnbuilt Rewrite = ⊥
 IsUnbuilt (Revise tree budget) = Unit {0}
 IsUnbuilt Pieces = Unit {0}
 
@@ -140,3 +142,29 @@ HasSheet (Trial leaves seed) = Unit {0}
 HasSheet Rewrite = Unit {0}
 HasSheet (Revise tree budget) = Unit {0}
 HasSheet Pieces = Unit {0}
+
+-- the command reads a tree from the source `tree`
+abbrev pub UsesTree : Words → Type 0
+UsesTree (Design workers budget replay fold strip steady) = Unit {0}
+UsesTree (Check tree) = Unit {0}
+UsesTree Contours = ⊥
+UsesTree (Made leaves seed) = ⊥
+UsesTree (Trial leaves seed) = ⊥
+UsesTree Rewrite = ⊥
+UsesTree (Revise tree budget) = Unit {0}
+UsesTree Pieces = ⊥
+
+-- the command reads a document from the source `doc`
+abbrev pub UsesDoc : Words → Type 0
+UsesDoc (Design workers budget replay fold strip steady) = ⊥
+UsesDoc (Check tree) = Unit {0}
+UsesDoc Contours = Unit {0}
+UsesDoc (Made leaves seed) = ⊥
+UsesDoc (Trial leaves seed) = ⊥
+UsesDoc Rewrite = Unit {0}
+UsesDoc (Revise tree budget) = Unit {0}
+UsesDoc Pieces = Unit {0}
+
+-- The count of a source that the command reads rose: the counts of `tree` before and after, and those of `doc`.
+abbrev pub ReadingFailed : Words → ℕ → ℕ → ℕ → ℕ → Type 0
+ReadingFailed w tree tree' doc doc' = (UsesTree w × Rose tree tree') ⊎ (UsesDoc w × Rose doc doc')

@@ -1,7 +1,6 @@
 // `design`: the smallest sheet for a tree.
 ghost use Rattle.std.specs.Prelude.{◌≡◌, ◌≤◌, ℕ, IfOk, MatchOption};
 ghost use Rattle.bp_document.specs.declared.document.Document.{Document};
-ghost use Rattle.bp_document.specs.Ranges.{IsDocument};
 ghost use Rattle.bp_base.specs.Causes.{Rose};
 ghost use Rattle.bp_base.specs.Limits.{most_budget};
 ghost use Rattle.bp_document.specs.Text.{doc_text};
@@ -10,9 +9,9 @@ ghost use Rattle.bp_engine.specs.Run.{Designs, DesignsBytes, IsDesign, NeedsSear
 
 use crate::Status;
 use crate::reading::{ReadError, read_all};
-use crate::text::Text;
+use crate::text::document_text;
 use bp_base::{Failed, MOST_TREE_BYTES, NoMemory, Sheet, Sink, Source, Tree};
-use bp_document::{Document, write_document};
+use bp_document::Document;
 use bp_floor::{floor, law_of_floors};
 use bp_metric::Metric;
 use bp_opening::open;
@@ -79,18 +78,7 @@ fn written(alloc: Global, sheet: Sheet, tree: Tree) -> Result<Option<Vec<u8>>, N
 {
     match designed(alloc, sheet, tree)? {
         None => Ok(None),
-        Some(document) => Ok(Some(text_of(alloc, &document)?)),
-    }
-}
-
-fn text_of(alloc: Global, document: &Document) -> Result<Vec<u8>, NoMemory>
-    requires { IsDocument document.now }
-    ensures { IfOk result (λ v. v.items ≡ doc_text document.now) }
-{
-    let mut text = Text::new(alloc);
-    match write_document(document, &mut text) {
-        Ok(()) => Ok(text.bytes),
-        Err(Failed) => Err(NoMemory),
+        Some(document) => Ok(Some(document_text(alloc, &document)?)),
     }
 }
 

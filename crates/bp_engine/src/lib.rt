@@ -1,10 +1,13 @@
 //! The commands: what their words ask for, how a run ends, and the run itself.
 #![tactic(auto)]
 
+mod answering;
 mod command;
 mod design;
+mod drawing;
 mod options;
 mod reading;
+mod rewriting;
 mod searched;
 mod status;
 mod tell;

@@ -1,3 +1,5 @@
+use bp_check::Reason;
+use bp_document::DocFault;
 use bp_tree::TreeFault;
 
 /// How a run ended.
@@ -7,6 +9,8 @@ pub enum Status {
     Done,
     /// The bytes of the tree are no tree.
     TreeRefused(TreeFault),
+    /// The bytes of the document are no document.
+    DocRefused(DocFault),
     /// The words are not in the table of commands.
     Usage,
     /// A source that the command reads has failed.
@@ -15,6 +19,8 @@ pub enum Status {
     WriteFault,
     /// Memory ran out, before anything was written.
     NoMemory,
+    /// The document fails this condition; the reason is written.
+    No(Reason),
     /// The words ask for something that isn't built yet.
     NotBuilt,
 }
@@ -30,10 +36,12 @@ impl Status {
         match self {
             Status::Done => 0,
             Status::TreeRefused(_) => 1,
+            Status::DocRefused(_) => 1,
             Status::Usage => 2,
             Status::ReadFault => 4,
             Status::WriteFault => 5,
             Status::NoMemory => 6,
+            Status::No(_) => 7,
             Status::NotBuilt => 8,
         }
     }

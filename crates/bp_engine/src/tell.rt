@@ -3,10 +3,11 @@ ghost use Rattle.std.specs.Prelude.{◌≡◌, ◌++◌, ◌∷◌, [], codes, d
 ghost use Rattle.bp_base.specs.Causes.{HasCause};
 ghost use Rattle.bp_text.specs.Puts.{Puts};
 ghost use Rattle.bp_engine.specs.Run.{Tells};
-ghost use Rattle.bp_engine.specs.Texts.{kind_text, text_of};
+ghost use Rattle.bp_engine.specs.Texts.{doc_kind_text, kind_text, text_of};
 
 use crate::Status;
 use bp_base::{Failed, Sink};
+use bp_document::{DocFault, DocKind};
 use bp_text::{put, put_parts};
 use bp_tree::{TreeFault, TreeKind};
 use itoa::Buffer;
@@ -26,6 +27,7 @@ fn put_status<E: Sink>(err: &mut E, status: Status) -> Result<(), Failed>
     match status {
         Status::Done => put(err, b""),
         Status::TreeRefused(fault) => put_fault(err, fault),
+        Status::DocRefused(fault) => put_doc_fault(err, fault),
         Status::Usage => put(
             err,
             b"usage: boxpleat design, check, contours, made or trial\n",
@@ -33,6 +35,7 @@ fn put_status<E: Sink>(err: &mut E, status: Status) -> Result<(), Failed>
         Status::ReadFault => put(err, b"read fault\n"),
         Status::WriteFault => put(err, b"write fault\n"),
         Status::NoMemory => put(err, b"no memory\n"),
+        Status::No(_) => put(err, b""),
         Status::NotBuilt => put(err, b"not built\n"),
     }
 }
@@ -41,16 +44,28 @@ fn put_fault<E: Sink>(err: &mut E, fault: TreeFault) -> Result<(), Failed>
     ensures text { Puts (E.held err.old) (E.held err.new) result (codes "tree: line " ++ decimal fault.line ++ codes ": " ++ kind_text fault.kind ++ 10 ∷ []) }
     ensures cause { HasCause (E.faults err.old) (E.faults err.new) result }
 {
-    put_fault_words(err, fault.line, kind_word(fault.kind))
+    put_fault_words(err, b"tree: line ", fault.line, kind_word(fault.kind))
 }
 
-fn put_fault_words<E: Sink>(err: &mut E, line: u64, kind: &[u8]) -> Result<(), Failed>
-    ensures text { Puts (E.held err.old) (E.held err.new) result (codes "tree: line " ++ decimal line ++ codes ": " ++ kind.now ++ 10 ∷ []) }
+fn put_doc_fault<E: Sink>(err: &mut E, fault: DocFault) -> Result<(), Failed>
+    ensures text { Puts (E.held err.old) (E.held err.new) result (codes "document: line " ++ decimal fault.line ++ codes ": " ++ doc_kind_text fault.kind ++ 10 ∷ []) }
+    ensures cause { HasCause (E.faults err.old) (E.faults err.new) result }
+{
+    put_fault_words(err, b"document: line ", fault.line, doc_kind_word(fault.kind))
+}
+
+fn put_fault_words<E: Sink>(
+    err: &mut E,
+    start: &[u8],
+    line: u64,
+    kind: &[u8],
+) -> Result<(), Failed>
+    ensures text { Puts (E.held err.old) (E.held err.new) result (start.now ++ decimal line ++ codes ": " ++ kind.now ++ 10 ∷ []) }
     ensures cause { HasCause (E.faults err.old) (E.faults err.new) result }
 {
     let mut buffer = Buffer::new();
     let line = buffer.format(line).as_bytes();
-    put_parts(err, &[b"tree: line ", line, b": ", kind, b"\n"])
+    put_parts(err, &[start, line, b": ", kind, b"\n"])
 }
 
 fn kind_word(kind: TreeKind) -> &'static [u8]
@@ -70,5 +85,19 @@ fn kind_word(kind: TreeKind) -> &'static [u8]
         TreeKind::Empty => b"Empty",
         TreeKind::RootIsLeaf => b"RootIsLeaf",
         TreeKind::TooManyLeaves => b"TooManyLeaves",
+    }
+}
+
+fn doc_kind_word(kind: DocKind) -> &'static [u8]
+    ensures { result.now ≡ doc_kind_text kind }
+{
+    match kind {
+        DocKind::TooLong => b"TooLong",
+        DocKind::Trailing => b"Trailing",
+        DocKind::Cut => b"Cut",
+        DocKind::BadForm => b"BadForm",
+        DocKind::BadTree => b"BadTree",
+        DocKind::BadPoint => b"BadPoint",
+        DocKind::BadDepth => b"BadDepth",
     }
 }

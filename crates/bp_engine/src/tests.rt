@@ -1,5 +1,7 @@
+mod documents;
+
 use crate::run;
-use bp_base::{CountSink, MemSink, MemSource, OpenGate, QuietSource};
+use bp_base::{CountSink, MemSink, MemSource, OpenGate};
 use std::alloc::Global;
 use std::process::Abort;
 use std::str;
@@ -14,16 +16,18 @@ struct Left {
     err: Vec<u8>,
 }
 
-// Which calls of the source, of `out` and of `err` fail.
+// Which calls of the sources, of `out` and of `err` fail.
 #[derive(Clone, Copy)]
 struct Faults {
     read: u64,
+    doc: u64,
     write: u64,
     tell: u64,
 }
 
 const NONE: Faults = Faults {
     read: 0,
+    doc: 0,
     write: 0,
     tell: 0,
 };
@@ -33,6 +37,7 @@ fn leave<R: Threads + Sync>(
     alloc: Global,
     line: &str,
     tree: &[u8],
+    doc: &[u8],
     faults: Faults,
 ) -> Result<Left, Fail> {
     let mut words = Vec::new(alloc);
@@ -49,9 +54,13 @@ fn leave<R: Threads + Sync>(
         fails: vec![in alloc; faults.read]?,
         faults: 0,
     };
-    let mut document = QuietSource {
-        bytes: Vec::new(alloc),
+    let mut document = MemSource {
+        bytes: doc.to_vec(alloc)?,
         at: 0,
+        most: 7,
+        calls: 0,
+        fails: vec![in alloc; faults.doc]?,
+        faults: 0,
     };
     let mut out = MemSink::new(alloc, 8192, 16, vec![in alloc; faults.write]?)?;
     let mut fold = CountSink { length: 0 };
@@ -80,7 +89,7 @@ fn check<R: Abort + Threads + Sync>(
     rows: &[(&str, &str, u8, &str, &str)],
 ) -> Result<(), Fail> {
     for (line, tree, number, out, err) in rows {
-        let left = leave(rt, alloc, line, tree.as_bytes(), NONE)?;
+        let left = leave(rt, alloc, line, tree.as_bytes(), b"", NONE)?;
         assert_eq!(rt; left.number, *number, "{line}, {tree}");
         assert_eq!(rt; left.out.as_slice(), out.as_bytes(), "{line}, {tree}");
         assert_eq!(rt; left.err.as_slice(), err.as_bytes(), "{line}, {tree}");
@@ -313,8 +322,8 @@ fn refusals(rt: HostRuntime) -> Result<(), Fail> {
             "not built\n",
         ),
         ("check --tree f", "", 8, "", "not built\n"),
-        ("contours", "", 8, "", "not built\n"),
-        ("rewrite", "", 8, "", "not built\n"),
+        ("contours", "", 1, "", "document: line 1: Cut\n"),
+        ("rewrite", "", 1, "", "document: line 1: Cut\n"),
         ("pieces", "", 8, "", "not built\n"),
         ("made 3 1", "", 8, "", "not built\n"),
         ("trial 3 1", "", 8, "", "not built\n"),
@@ -328,14 +337,14 @@ const STAR: &str = "c p 1\nc q 1\nc r 1\nc s 1\n";
 #[test]
 fn full_input_and_one_byte_more(rt: HostRuntime) -> Result<(), Fail> {
     let alloc = rt.alloc();
-    let star = leave(&rt, alloc, "design", STAR.as_bytes(), NONE)?;
+    let star = leave(&rt, alloc, "design", STAR.as_bytes(), b"", NONE)?;
     let mut bytes = STAR.as_bytes().to_vec(alloc)?;
     bytes.resize(65_536, b'#')?;
-    let full = leave(&rt, alloc, "design", &bytes, NONE)?;
+    let full = leave(&rt, alloc, "design", &bytes, b"", NONE)?;
     assert_eq!(rt; full.number, 0);
     assert_eq!(rt; full.out.as_slice(), star.out.as_slice());
     bytes.push(b'#')?;
-    let longer = leave(&rt, alloc, "design", &bytes, NONE)?;
+    let longer = leave(&rt, alloc, "design", &bytes, b"", NONE)?;
     assert_eq!(rt; longer.number, 1);
     assert_eq!(rt;
         longer.err.as_slice(),
@@ -362,12 +371,12 @@ fn stars_of_many_leaves(rt: HostRuntime) -> Result<(), Fail> {
         (32, "side 10\nbound 10\n"),
     ] {
         let tree = star_of(alloc, leaves)?;
-        let left = leave(&rt, alloc, "design", tree.as_bytes(), NONE)?;
+        let left = leave(&rt, alloc, "design", tree.as_bytes(), b"", NONE)?;
         assert_eq!(rt; left.number, 0);
         assert!(rt; str::from_utf8(&left.out)?.contains(sides));
     }
     let tree = star_of(alloc, 33)?;
-    let left = leave(&rt, alloc, "design", tree.as_bytes(), NONE)?;
+    let left = leave(&rt, alloc, "design", tree.as_bytes(), b"", NONE)?;
     assert_eq!(rt; left.number, 1);
     assert_eq!(rt;
         left.err.as_slice(),
@@ -380,17 +389,17 @@ fn stars_of_many_leaves(rt: HostRuntime) -> Result<(), Fail> {
 fn faults_end_the_run(rt: HostRuntime) -> Result<(), Fail> {
     let alloc = rt.alloc();
     let read = Faults { read: 1, ..NONE };
-    let left = leave(&rt, alloc, "design", STAR.as_bytes(), read)?;
+    let left = leave(&rt, alloc, "design", STAR.as_bytes(), b"", read)?;
     assert_eq!(rt; left.number, 4);
     assert_eq!(rt; left.out.len(), 0);
     assert_eq!(rt; left.err.as_slice(), b"read fault\n".as_slice());
     let write = Faults { write: 2, ..NONE };
-    let left = leave(&rt, alloc, "design", STAR.as_bytes(), write)?;
+    let left = leave(&rt, alloc, "design", STAR.as_bytes(), b"", write)?;
     assert_eq!(rt; left.number, 5);
     assert_eq!(rt; left.out.as_slice(), b"boxpleat 2\nsheet".as_slice());
     assert_eq!(rt; left.err.as_slice(), b"write fault\n".as_slice());
     let tell = Faults { tell: 1, ..NONE };
-    let left = leave(&rt, alloc, "design --workers 0", STAR.as_bytes(), tell)?;
+    let left = leave(&rt, alloc, "design --workers 0", STAR.as_bytes(), b"", tell)?;
     assert_eq!(rt; left.number, 2);
     assert_eq!(rt; left.err.len(), 0);
     Ok(())

@@ -1,6 +1,7 @@
 use Rattle.std.proofs.Common.{◌≡◌, sym, subst}
 use Rattle.bp_engine.specs.declared.words.Words.{Words}
-use Rattle.bp_engine.specs.Run.{Answers, IsUnbuilt}
+use Rattle.bp_engine.specs.declared.words.Words.TheVariants.{Contours, Rewrite}
+use Rattle.bp_engine.specs.Run.{Answers, IsUnbuilt, ReadingFailed, UsesDoc, UsesTree}
 use Rattle.bp_engine.proofs.command.answer.Goals as goal
 
 pub returns-in-Some-clause-unbuilt : goal.returns-in-Some-clause-unbuilt
@@ -13,3 +14,26 @@ returns-in-Some-clause-design g c = λ w asks built.
     let same : w ≡ c.in-Some.asked = c.one_meaning.ensures w c.in-Some.asked asks c.in-Some.ensures in
     subst (λ (v : Words). Answers v (g.T.Source.left c.args.tree.now) (g.T.Source.left c.do_asked.new.tree) (g.K.Sink.held c.args.out.now) (g.K.Sink.held c.do_asked.new.out) c.do_asked.result) (sym same)
     (c.do_asked.ensures.design (λ unbuilt. built (subst IsUnbuilt (sym same) unbuilt)))
+
+pub returns-in-Some-clause-rewrite : goal.returns-in-Some-clause-rewrite
+returns-in-Some-clause-rewrite g c = λ asks.
+    c.do_asked.ensures.rewrite (sym (c.one_meaning.ensures Rewrite c.in-Some.asked asks c.in-Some.ensures))
+
+pub returns-in-Some-clause-contours : goal.returns-in-Some-clause-contours
+returns-in-Some-clause-contours g c = λ asks.
+    c.do_asked.ensures.contours (sym (c.one_meaning.ensures Contours c.in-Some.asked asks c.in-Some.ensures))
+
+pub returns-in-Some-clause-tree : goal.returns-in-Some-clause-tree
+returns-in-Some-clause-tree g c = λ w asks unused.
+    let same : w ≡ c.in-Some.asked = c.one_meaning.ensures w c.in-Some.asked asks c.in-Some.ensures in
+    c.do_asked.ensures.tree (λ uses. unused (subst UsesTree (sym same) uses))
+
+pub returns-in-Some-clause-doc : goal.returns-in-Some-clause-doc
+returns-in-Some-clause-doc g c = λ w asks unused.
+    let same : w ≡ c.in-Some.asked = c.one_meaning.ensures w c.in-Some.asked asks c.in-Some.ensures in
+    c.do_asked.ensures.doc (λ uses. unused (subst UsesDoc (sym same) uses))
+
+pub returns-in-Some-clause-read : goal.returns-in-Some-clause-read
+returns-in-Some-clause-read g c = λ w asks is.
+    let same : w ≡ c.in-Some.asked = c.one_meaning.ensures w c.in-Some.asked asks c.in-Some.ensures in
+    subst (λ (v : Words). ReadingFailed v (g.T.Source.faults c.args.tree.now) (g.T.Source.faults c.do_asked.new.tree) (g.D.Source.faults c.args.doc.now) (g.D.Source.faults c.do_asked.new.doc)) (sym same) (c.do_asked.ensures.read is)
