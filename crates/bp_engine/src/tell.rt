@@ -51,15 +51,15 @@ fn put_doc_fault<E: Sink>(err: &mut E, fault: DocFault) -> Result<(), Failed>
     ensures text { Puts (E.held err.old) (E.held err.new) result (codes "document: line " ++ decimal fault.line ++ codes ": " ++ doc_kind_text fault.kind ++ 10 ∷ []) }
     ensures cause { HasCause (E.faults err.old) (E.faults err.new) result }
 {
-    put_fault_words(err, b"document: line ", fault.line, doc_kind_word(fault.kind))
+    put_fault_words(
+        err,
+        b"document: line ",
+        fault.line,
+        doc_kind_word(fault.kind),
+    )
 }
 
-fn put_fault_words<E: Sink>(
-    err: &mut E,
-    start: &[u8],
-    line: u64,
-    kind: &[u8],
-) -> Result<(), Failed>
+fn put_fault_words<E: Sink>(err: &mut E, start: &[u8], line: u64, kind: &[u8]) -> Result<(), Failed>
     ensures text { Puts (E.held err.old) (E.held err.new) result (start.now ++ decimal line ++ codes ": " ++ kind.now ++ 10 ∷ []) }
     ensures cause { HasCause (E.faults err.old) (E.faults err.new) result }
 {

@@ -5,9 +5,14 @@ use std::process::Abort;
 use std::test::Fail;
 use std::thread::Threads;
 
-const FIRST: &str = "boxpleat 1\nedges 5\nedge c p 2\nedge c q 2\nedge c r 2\nedge c s 1\nedge c t 1\nside 5\nbound 4\npoint p 0 0\npoint q 0 4\npoint r 4 0\npoint s 3 3\npoint t 3 5\nfloor 2 4 1 2 3 4 5\nproof 2\n0 split 1 2\n1 open x 1 2\nend\n";
-const SECOND: &str = "boxpleat 2\nsheet square\nedges 5\nedge c p 2\nedge c q 2\nedge c r 2\nedge c s 1\nedge c t 1\nside 5\nbound 4\npoint p 0 0\npoint q 0 4\npoint r 4 0\npoint s 3 3\npoint t 3 5\nfloor 2 4 1 2 3 4 5\nproof 2\n0 split 1 2\n1 open x 1 2\nend\n";
-const TWIGS: &str = "boxpleat 2\nsheet square\nedges 6\nedge r a 2\nedge r b 2\nedge a a1 1\nedge a a2 1\nedge b b1 1\nedge b b2 1\nside 6\nbound 6\npoint a1 0 0\npoint a2 0 2\npoint b1 6 0\npoint b2 6 2\nfloor 6 6 1 3\nproof none\nend\n";
+const FIRST: &str =
+    "boxpleat 1\nedges 5\nedge c p 2\nedge c q 2\nedge c r 2\nedge c s 1\nedge c t 1\nside 5\nbound 4\npoint p 0 0\npoint q 0 4\npoint r 4 0\npoint s 3 3\npoint t 3 5\nfloor 2 4 1 2 3 4 5\nproof 2\n0 split 1 2\n1 open x 1 2\nend\n";
+
+const SECOND: &str =
+    "boxpleat 2\nsheet square\nedges 5\nedge c p 2\nedge c q 2\nedge c r 2\nedge c s 1\nedge c t 1\nside 5\nbound 4\npoint p 0 0\npoint q 0 4\npoint r 4 0\npoint s 3 3\npoint t 3 5\nfloor 2 4 1 2 3 4 5\nproof 2\n0 split 1 2\n1 open x 1 2\nend\n";
+
+const TWIGS: &str =
+    "boxpleat 2\nsheet square\nedges 6\nedge r a 2\nedge r b 2\nedge a a1 1\nedge a a2 1\nedge b b1 1\nedge b b2 1\nside 6\nbound 6\npoint a1 0 0\npoint a2 0 2\npoint b1 6 0\npoint b2 6 2\nfloor 6 6 1 3\nproof none\nend\n";
 
 fn read<R: Threads + Sync>(
     rt: &R,
@@ -36,20 +41,8 @@ fn check<R: Abort + Threads + Sync>(
 #[test]
 fn rewrites(rt: HostRuntime) -> Result<(), Fail> {
     let rows = [
-        (
-            "rewrite",
-            FIRST,
-            0,
-            SECOND,
-            "",
-        ),
-        (
-            "rewrite",
-            SECOND,
-            0,
-            SECOND,
-            "",
-        ),
+        ("rewrite", FIRST, 0, SECOND, ""),
+        ("rewrite", SECOND, 0, SECOND, ""),
         (
             "rewrite",
             "boxpleat 2\nsheet square\nedges 5\nedge c p 2\nedge c q 2\nedge c r 2\nedge c s 1\nedge c t 1\nside 5\nbound 4\npoint p 0 0\npoint q 0 4\npoint r 4 0\npoint s 3 3\npoint t 3 5\nfloor 2 4 1 2 3 4 5\nproof 2\n0 split 1 2\n1 open x 1 2\nend\nx",
@@ -220,7 +213,8 @@ fn draws_nothing(rt: HostRuntime) -> Result<(), Fail> {
 
 #[test]
 fn draws_on_a_great_sheet(rt: HostRuntime) -> Result<(), Fail> {
-    let great = "boxpleat 2\nsheet square\nedges 5\nedge c p 2\nedge c q 2\nedge c r 2\nedge c s 1\nedge c t 1\nside 999999999\nbound 4\npoint p 0 0\npoint q 0 4\npoint r 4 0\npoint s 3 3\npoint t 3 5\nfloor 2 4 1 2 3 4 5\nproof 2\n0 split 1 2\n1 open x 1 2\nend\n";
+    let great =
+        "boxpleat 2\nsheet square\nedges 5\nedge c p 2\nedge c q 2\nedge c r 2\nedge c s 1\nedge c t 1\nside 999999999\nbound 4\npoint p 0 0\npoint q 0 4\npoint r 4 0\npoint s 3 3\npoint t 3 5\nfloor 2 4 1 2 3 4 5\nproof 2\n0 split 1 2\n1 open x 1 2\nend\n";
     let left = read(&rt, rt.alloc(), "contours", great.as_bytes(), NONE)?;
     assert_eq!(rt; left.number, 0);
     Ok(())
@@ -262,7 +256,15 @@ fn fail_writing<R: Abort + Threads + Sync>(
     document: &[u8],
 ) -> Result<(), Fail> {
     let second = Faults { write: 2, ..NONE };
-    fail(rt, alloc, "contours", document, second, 5, b"contours 1\nedge ")?;
+    fail(
+        rt,
+        alloc,
+        "contours",
+        document,
+        second,
+        5,
+        b"contours 1\nedge ",
+    )?;
     let first = Faults { write: 1, ..NONE };
     fail(rt, alloc, "rewrite", document, first, 5, b"")
 }
