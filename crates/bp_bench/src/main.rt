@@ -1,14 +1,20 @@
-//! Times extensions with retractions of a warm path on 16 leaves, and prints how many are done a second on standard error.
+//! Times a warm path, a whole search with its records, and pushes and takes of a hand, on 16 leaves, and prints on standard error how
+//! many were done in how many milliseconds.
 #![tactic(auto)]
 
 ghost use Rattle.std.specs.Prelude.{◌≡◌, ◌≤◌, ◌<◌, ◌*◌, ◌-◌, ◌+◌, ◌/◌, ◌++◌, ℕ, IsTrue, IfOk, OnOk, length};
 ghost use Rattle.bp_base.specs.Path.{IsPairOf};
 ghost use Rattle.bp_base.specs.Tree.{leaf_count};
 ghost use Rattle.bp_metric.specs.Samples.{is_sample, letters};
+ghost use Rattle.bp_pool.specs.Shares.{IsTaskOf};
 ghost use Rattle.bp_warm.specs.Warm.{pair_count};
 
-use bp_base::{Choice, Name, NoMemory, Pair, Step, Tree};
+use bp_base::{Choice, Name, NoMemory, Pair, Path, Step, Task, Tree};
+use bp_floor::floor;
 use bp_metric::Metric;
+use bp_opening::open;
+use bp_pool::{Hand, Take};
+use bp_stack::{begin, search};
 use bp_warm::Warm;
 use std::alloc::Global;
 use std::io;
@@ -124,6 +130,61 @@ fn timed(rt: &impl Runtime, metric: &Metric, warm: &mut Warm) -> io::Result<()>
     Ok(())
 }
 
+// A whole search from the opening on; how many branches it examined.
+fn searched(alloc: Global, metric: &Metric) -> Result<u64, NoMemory> {
+    let opening = open(alloc, metric)?;
+    let floor = floor(alloc, metric)?;
+    let start = begin(alloc, metric, opening)?;
+    let found = search(alloc, metric, start, floor.side, 200_000)?;
+    Ok(found.examined)
+}
+
+fn timed_search(rt: &impl Runtime, alloc: Global, metric: &Metric) -> io::Result<()> {
+    let start = Instant::now(rt)?;
+    let count = searched(alloc, metric).unwrap_or(0);
+    let spent = start.elapsed(rt)?.as_millis();
+    eprintln!(rt; "{count} branches of a search in {spent} ms")?;
+    Ok(())
+}
+
+// A task whose path is empty.
+fn task(alloc: Global, _leaves: u64) -> Task
+    ensures { IsTaskOf _leaves result }
+{
+    Task {
+        path: Path::empty(alloc),
+        bound: 0,
+    }
+}
+
+// Pushes a task and takes it again, so many times; how often there was one.
+fn pass_on(alloc: Global, hand: &mut Hand, leaves: u64, rounds: u64) -> u64
+    requires { hand.old.pool.leaves ≡ leaves }
+{
+    let mut count = 0u64;
+    for _ in 0..rounds {
+        let _ = hand.push(task(alloc, leaves));
+        if let Take::Task(_) = hand.take() {
+            count = count.saturating_add(1);
+        }
+    }
+    count
+}
+
+const PASSES: u64 = 2_000_000;
+
+fn timed_pool(rt: &impl Runtime, alloc: Global) -> io::Result<()> {
+    let mut hands = match bp_pool::open(alloc, 1, 16, task(alloc, 16)) {
+        Ok(hands) => hands,
+        Err(NoMemory) => return Ok(()),
+    };
+    let start = Instant::now(rt)?;
+    let count = pass_on(alloc, &mut hands[0], 16, PASSES);
+    let spent = start.elapsed(rt)?.as_millis();
+    eprintln!(rt; "{count} pushes with takes of a hand in {spent} ms")?;
+    Ok(())
+}
+
 fn prepared(alloc: Global) -> Result<(Metric, Warm), NoMemory>
     ensures { IfOk result (λ p. (p.0 ≡ p.1.metric) × (length p.1.path ≡ 0)) }
 {
@@ -140,5 +201,7 @@ fn main(rt: HostRuntime) -> io::Result<ExitCode> {
         Err(NoMemory) => return Ok(ExitCode::from(1)),
     };
     timed(&rt, &metric, &mut warm)?;
+    timed_search(&rt, rt.alloc(), &metric)?;
+    timed_pool(&rt, rt.alloc())?;
     Ok(ExitCode::from(0))
 }

@@ -1,4 +1,5 @@
 mod Best
-pub mod Branches
+mod Branches
+mod Ordered
 pub mod Picked
 pub mod Solved

@@ -1,3 +1,4 @@
 pub mod Nearest
 pub mod Outcomes
 pub mod Branches
+pub mod Orders

@@ -3,6 +3,7 @@
 
 mod judging;
 mod laws;
+mod order;
 mod pairs;
 mod placing;
 #[cfg(test)]
@@ -10,5 +11,6 @@ mod tests;
 
 pub use judging::{examine, extended, judge};
 pub use laws::{law_of_branches, law_of_children, law_of_solved};
+pub use order::PairOrder;
 pub use pairs::next_pair;
 pub use placing::low_points;

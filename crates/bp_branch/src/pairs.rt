@@ -62,7 +62,8 @@ fn better(metric: &Metric, xs: &[u64], ys: &[u64], pair: Pair, best: Option<Pair
     }
 }
 
-fn is_near(metric: &Metric, xs: &[u64], ys: &[u64], pair: Pair) -> bool
+// Whether the leaves' points are nearer than their distance.
+pub fn is_near(metric: &Metric, xs: &[u64], ys: &[u64], pair: Pair) -> bool
     requires xs { length xs.now ≡ leaf_count metric.now.tree }
     requires ys { length ys.now ≡ leaf_count metric.now.tree }
     requires pair { IsPair metric.now.tree pair.i pair.j }

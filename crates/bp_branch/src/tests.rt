@@ -5,7 +5,8 @@ ghost use Rattle.bp_metric.specs.Chains.{HasPairsOf};
 ghost use Rattle.bp_metric.specs.Samples.{is_sample, letters};
 
 use crate::{
-    examine, extended, law_of_branches, law_of_children, law_of_solved, low_points, next_pair,
+    PairOrder, examine, extended, law_of_branches, law_of_children, law_of_solved, low_points,
+    next_pair,
 };
 use bp_base::{Chain, Choice, Claim, Name, Outcome, Pair, Path, Step, Tree};
 use bp_metric::Metric;
@@ -93,6 +94,12 @@ fn judged(
 {
     let path = path_of(alloc, metric.leaves(), steps)?;
     let (outcome, least) = examine(alloc, metric, &path, bound)?;
+    if let Some(found) = &least {
+        let order = PairOrder::of(alloc, metric)?;
+        if told_of(&order.judge(metric, found, bound)) != told_of(&outcome) {
+            return Err(Fail::from("another outcome in order"));
+        }
+    }
     match (&least, &outcome) {
         (None, Outcome::Cyclic(_)) => Ok(told_of(&outcome)),
         (None, _) => Err(Fail::from("no coordinates")),

@@ -1,11 +1,10 @@
 -- The paths of records and of tasks left are all different, so a budget that covers the stated tree covers them; and they are at most four
 -- times as many as the records, and one.
-use Rattle.std.proofs.Common.{◌≡◌, ◌≢◌, ℕ, zero, suc, ◌+◌, ◌*◌, ◌<◌, ◌≤◌, Bool, true, false, ◌&&◌, ◌==◌, cond, List, [], ◌∷◌, ◌++◌, length, get_or, map, All, refl, sym, ap, ◌∙◌, subst, arith, length-append}
+use Rattle.std.proofs.Common.{◌≡◌, ◌≢◌, ℕ, zero, suc, ◌+◌, ◌*◌, ◌≤◌, Bool, true, false, ◌&&◌, ◌==◌, cond, List, [], ◌∷◌, ◌++◌, length, get_or, All, refl, sym, ap, ◌∙◌, subst, arith, length-append}
 use Rattle.std.specs.List.{AllPairs, sum_by, flat_map}
-use Rattle.std.proofs.lemmas.List.{length-map, get_or_default}
+use Rattle.std.proofs.lemmas.List.{length-map}
 use Rattle.std.proofs.lemmas.List.Elements.{All-append, All-map}
 use Rattle.std.proofs.lemmas.List.Kept.{AllPairs-cons}
-use Rattle.std.proofs.lemmas.List.Concat.{length-flat_map}
 use Rattle.std.proofs.lemmas.List.Sums.{sum_by-cons, sum_by-append, get_or-le-sum_by}
 use Rattle.bp_base.specs.declared.path.Choice.{Choice}
 use Rattle.bp_base.specs.declared.path.Choice.TheVariants.{Left, Right, Below, Above}
@@ -20,7 +19,7 @@ use Rattle.bp_base.specs.declared.record.Task.{Task}
 use Rattle.bp_base.specs.Bags.{choice_number, same_path, same_step}
 use Rattle.bp_base.specs.Tree.{TreeValue}
 use Rattle.bp_base.proofs.Bags.{same-length, sum_by-map, sum_by-flat_map, sum_by-mono}
-use Rattle.bp_metric.specs.Choices.{allowed, allowed_later, are_late_twins, is_pair_of}
+use Rattle.bp_metric.specs.Choices.{allowed, are_late_twins, is_pair_of}
 use Rattle.bp_metric.specs.Records.{IsBalanced, children_of, children_of_kind, paths_left, paths_of}
 use Rattle.bp_metric.specs.Refutation.{extended}
 use Rattle.bp_metric.specs.Stated.{CoversStated, IsStated}

@@ -1,34 +1,27 @@
 -- The nodes of records and of tasks left, joined to one refutation: what holds of all of them, and how many there are.
-use Rattle.std.proofs.Common.{◌≡◌, ◌⊎◌, inl, inr, ℕ, zero, suc, ◌+◌, ◌-◌, ◌*◌, ◌/◌, ◌<◌, ◌≤◌, Bool, cond, List, [], ◌∷◌, ◌++◌, length, get_or, map, filter, All, refl, sym, ap, ◌∙◌, subst, arith, length-append}
-use Rattle.std.specs.List.{AllByRecursion, Any, sum_by, flat_map, range_with_len}
-use Rattle.std.proofs.Math.Nat.{mul-le-mul}
+use Rattle.std.proofs.Common.{◌≡◌, ℕ, suc, ◌+◌, ◌<◌, Bool, cond, List, [], ◌∷◌, ◌++◌, length, get_or, map, All, refl, ap, ◌∙◌, arith, length-append}
+use Rattle.std.specs.List.{AllByRecursion, Any, sum_by}
 use Rattle.std.proofs.lemmas.List.{length-map, get_or-map, get_or_append_left}
 use Rattle.std.proofs.lemmas.List.Elements.{All-append, All-from_recursion, recursion_from_All, All-map}
-use Rattle.std.proofs.lemmas.List.FromFn.{length-range_with_len}
-use Rattle.std.proofs.lemmas.List.Concat.{length-flat_map}
 use Rattle.std.proofs.lemmas.List.Sums.{length-filter, sum_by-append, sum_by-cons}
 use Rattle.bp_base.specs.declared.chain.Claim.{Claim}
 use Rattle.bp_base.specs.declared.chain.Claim.TheVariants.{Walk, Cycle}
-use Rattle.bp_base.specs.declared.path.Pair.{Pair}
 use Rattle.bp_base.specs.declared.path.Step.{Step}
 use Rattle.bp_base.specs.declared.point.Axis.{Axis}
 use Rattle.bp_base.specs.declared.point.Sheet.{Sheet}
-use Rattle.bp_base.specs.declared.point.Sheet.TheVariants.{Square, Strip}
 use Rattle.bp_base.specs.declared.record.Record.{Record}
 use Rattle.bp_base.specs.declared.record.RecordKind.{RecordKind}
 use Rattle.bp_base.specs.declared.record.RecordKind.TheVariants.{Split, Closed}
 use Rattle.bp_base.specs.declared.record.Task.{Task}
 use Rattle.bp_base.specs.declared.refutation.Refutation.{Refutation}
-use Rattle.bp_base.specs.Bags.{AreSame}
 use Rattle.bp_base.specs.Chain.{IsChainList}
-use Rattle.bp_base.specs.Limits.{most_leaves, most_number, most_steps}
 use Rattle.bp_base.specs.Tree.{TreeValue, IsTree, leaf_count}
-use Rattle.bp_base.proofs.Bags.{same_sym, same-length, sum_by-map}
+use Rattle.bp_base.proofs.Bags.{same_sym, same-length}
 use Rattle.bp_metric.specs.Chains.{ClaimHolds, IsChain}
-use Rattle.bp_metric.specs.Coordinates.{IsForced, IsShown, IsShownOrCycle}
-use Rattle.bp_metric.specs.Nodes.{Node, Part, SplitOf, ClosedBy, OpenBy, nodes_of}
+use Rattle.bp_metric.specs.Coordinates.{IsShown, IsShownOrCycle}
+use Rattle.bp_metric.specs.Nodes.{Node, Part, nodes_of}
 use Rattle.bp_metric.proofs.Lows.{chain_few}
-use Rattle.bp_document.specs.Ranges.{IsChainOf, IsSmallPart}
+use Rattle.bp_document.specs.Ranges.{IsChainOf}
 use Rattle.bp_check.specs.Written.{is_examined, is_open, examined_count, open_count}
 use Rattle.bp_join.specs.Joined.{AreOpenNodes, IsJoined, IsOpenNode, node_of, part_of}
 use Rattle.bp_engine.proofs.SameNodes.{all_nodes, any_node}

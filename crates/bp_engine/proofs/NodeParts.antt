@@ -1,19 +1,18 @@
 -- The nodes of a refutation at their paths: their parts, and how deep they lie.
-use Rattle.std.proofs.Common.{◌≡◌, ℕ, suc, ◌+◌, ◌≤◌, max, List, [], ◌∷◌, ◌++◌, length, map, All, refl, sym, ap, ◌∙◌, subst, arith, length-append}
+use Rattle.std.proofs.Common.{◌≡◌, ℕ, ◌+◌, ◌≤◌, List, [], ◌∷◌, ◌++◌, length, map, All, refl, sym, ap, ◌∙◌, subst, arith, length-append}
 use Rattle.std.specs.List.{flat_map, AllByRecursion}
 use Rattle.std.proofs.lemmas.List.{map-append}
 use Rattle.std.proofs.lemmas.List.Elements.{recursion_from_All}
-use Rattle.bp_base.specs.declared.chain.Claim.{Claim}
 use Rattle.bp_base.specs.declared.path.Choice.{Choice}
 use Rattle.bp_base.specs.declared.path.Choice.TheVariants.{Left}
 use Rattle.bp_base.specs.declared.path.Pair.{Pair}
 use Rattle.bp_base.specs.declared.path.Step.{Step}
 use Rattle.bp_base.specs.declared.point.Sheet.{Sheet}
 use Rattle.bp_base.specs.declared.refutation.Refutation.{Refutation}
-use Rattle.bp_base.specs.declared.refutation.Refutation.TheVariants.{Split, Closed, Open}
+use Rattle.bp_base.specs.declared.refutation.Refutation.TheVariants.{Split}
 use Rattle.bp_base.specs.Tree.{TreeValue}
 use Rattle.bp_metric.specs.Choices.{allowed}
-use Rattle.bp_metric.specs.Nodes.{Node, Part, SplitOf, ClosedBy, OpenBy, child_nodes, nodes_of, parts_of}
+use Rattle.bp_metric.specs.Nodes.{Node, Part, SplitOf, child_nodes, nodes_of, parts_of}
 use Rattle.bp_metric.specs.Refutation.{extended}
 use Rattle.bp_metric.proofs.Refutations.{parts-split, parts-closed, parts-open}
 use Rattle.bp_document.specs.Ranges.{depth_of, one_deeper}

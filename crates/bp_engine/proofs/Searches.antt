@@ -1,15 +1,14 @@
 -- What a search ends with, and the document that is written of it.
-use Rattle.std.proofs.Common.{◌≡◌, ◌≢◌, ◌⊎◌, inl, inr, ℕ, zero, suc, ◌+◌, ◌-◌, ◌*◌, ◌/◌, ◌<◌, ◌≤◌, min, max, false, List, [], ◌∷◌, length, get_or, map, All, Option, None, Some, refl, sym, ap, ◌∙◌, subst, arith}
+use Rattle.std.proofs.Common.{◌≡◌, ◌≢◌, ◌⊎◌, inl, inr, ℕ, ◌+◌, ◌-◌, ◌*◌, ◌<◌, ◌≤◌, false, List, [], ◌∷◌, length, get_or, map, All, Option, None, Some, refl, sym, ap, ◌∙◌, subst, arith}
 use Rattle.std.specs.List.{Any}
 use Rattle.std.proofs.Math.Nat.{mul-le-mul}
 use Rattle.std.proofs.lemmas.Bool.{cases_lt, false≢true}
 use Rattle.std.proofs.lemmas.List.{length-map, get_or_default}
-use Rattle.std.proofs.lemmas.List.Elements.{All-map, All-from_recursion, recursion_from_All}
+use Rattle.std.proofs.lemmas.List.Elements.{All-map, recursion_from_All}
 use Rattle.std.proofs.lemmas.List.FromFn.{length-range_with_len}
 use Rattle.std.specs.List.{range_with_len, AllByRecursion}
 use Rattle.bp_base.specs.declared.chain.Claim.{Claim}
 use Rattle.bp_base.specs.declared.chain.Claim.TheVariants.{Walk, Cycle}
-use Rattle.bp_base.specs.declared.path.Pair.{Pair}
 use Rattle.bp_base.specs.declared.path.Step.{Step}
 use Rattle.bp_base.specs.declared.point.Floor.{Floor}
 use Rattle.bp_base.specs.declared.point.Placement.{Placement}
@@ -22,17 +21,16 @@ use Rattle.bp_base.specs.declared.record.RecordKind.TheVariants.{Split, Closed}
 use Rattle.bp_base.specs.declared.record.Settled.{Settled}
 use Rattle.bp_base.specs.declared.record.Task.{Task}
 use Rattle.bp_base.specs.declared.refutation.Refutation.{Refutation}
-use Rattle.bp_base.specs.Bags.{AreSame}
-use Rattle.bp_base.specs.Limits.{most_budget, most_leaves, most_number, most_steps}
+use Rattle.bp_base.specs.Limits.{most_budget, most_number, most_steps}
 use Rattle.bp_base.specs.Point.{origin, point_at}
 use Rattle.bp_base.specs.Tree.{TreeValue, IsTree, leaf_count}
 use Rattle.bp_base.proofs.Bags.{same-length}
 use Rattle.bp_metric.specs.Chains.{HasPairsOf}
 use Rattle.bp_metric.specs.Coordinates.{IsForced, IsShown, IsShownOrCycle}
-use Rattle.bp_metric.specs.Floor.{FloorHolds, IsFloor, IsFloorSide, floor_at}
+use Rattle.bp_metric.specs.Floor.{FloorHolds, IsFloor, IsFloorSide}
 use Rattle.bp_metric.specs.Metric.{IsMetric, IsSheet, MetricValue}
 use Rattle.bp_metric.specs.Next.{IsNext}
-use Rattle.bp_metric.specs.Nodes.{Node, Part, SplitOf, ClosedBy, OpenBy, counted_part, least_of, lesser, nodes_of, node_count_of, parts_of, weighs}
+use Rattle.bp_metric.specs.Nodes.{Node, Part, OpenBy, counted_part, least_of, lesser, nodes_of, parts_of, weighs}
 use Rattle.bp_metric.specs.Opening.{IsOpening, IsOpeningSide, side_of}
 use Rattle.bp_metric.specs.Records.{IsJudged, IsSound}
 use Rattle.bp_metric.specs.Refutation.{Fits}
@@ -40,17 +38,17 @@ use Rattle.bp_metric.specs.Stated.{CoversStated, IsStated, IsStatedFor}
 use Rattle.bp_metric.specs.Valid.{Lies, NoneBelow, Valid}
 use Rattle.bp_branch.specs.Branches.{IsBranch}
 use Rattle.bp_branch.proofs.Picked.{branch_short, picked_branch, stated_picked}
-use Rattle.bp_core.specs.Settled.{IsAtEnd, IsLeastFound, IsSettled, Solves}
-use Rattle.bp_core.specs.Underway.{IsLeft, IsUnderway}
-use Rattle.bp_join.specs.Joined.{HasPairOf, IsJoined, IsOpenNode, node_of, part_of}
+use Rattle.bp_core.specs.Settled.{IsSettled, Solves}
+use Rattle.bp_core.specs.Underway.{IsLeft}
+use Rattle.bp_join.specs.Joined.{HasPairOf, IsJoined, IsOpenNode, part_of}
 use Rattle.bp_document.specs.declared.document.Document.{Document}
 use Rattle.bp_document.specs.Ranges.{IsDocument, IsFloorLine, IsProof, IsSmallPart, IsSmallPoint, HasProof}
-use Rattle.bp_check.specs.Checks.{Checks, IsAtMost, IsBoundShown, ProofFits, ProofShows}
-use Rattle.bp_check.specs.Written.{CountsFrom, IsLeastSide, IsSolved, IsWritten, IsWrittenNode, IsWrittenPart, IsWrittenProof, HasWrittenProof, SolvedPart, bound_of, examined_count, open_count}
+use Rattle.bp_check.specs.Checks.{IsAtMost, IsBoundShown, ProofFits}
+use Rattle.bp_check.specs.Written.{CountsFrom, IsLeastSide, IsSolved, IsWritten, IsWrittenNode, IsWrittenPart, HasWrittenProof, SolvedPart, bound_of, examined_count, open_count}
 use Rattle.bp_engine.specs.Searched.{IsAbove, IsFloorOf, IsOpeningOf, IsSearched}
 use Rattle.bp_engine.proofs.Covered.{all_covered, few_found}
 use Rattle.bp_engine.proofs.FoundNodes.{all_found, record_found, examined_all, open_all_left, nodes_many, shown_holds, open_holds, claim_small}
-use Rattle.bp_engine.proofs.NodeParts.{parts_same, depth_within, parts}
+use Rattle.bp_engine.proofs.NodeParts.{parts_same, depth_within}
 use Rattle.bp_engine.proofs.ShownCounts.{shown_counts}
 
 -- Weights.

@@ -1,5 +1,5 @@
 -- The walk that is shown of a path counts with what the path forces, or, on a strip that is too narrow for it, not at all.
-use Rattle.std.proofs.Common.{◌≡◌, ℕ, ◌+◌, ◌<◌, ◌≤◌, inl, inr, true, cond, List, [], ◌∷◌, Option, None, Some, nat_lt, sym, ◌∙◌, ap, subst, arith}
+use Rattle.std.proofs.Common.{◌≡◌, ℕ, ◌+◌, ◌<◌, ◌≤◌, inr, true, List, [], ◌∷◌, nat_lt, subst, arith}
 use Rattle.std.proofs.lemmas.Bool.{lt-ltb}
 use Rattle.bp_base.specs.declared.chain.Claim.{Claim}
 use Rattle.bp_base.specs.declared.chain.Claim.TheVariants.{Walk, Cycle}
@@ -10,7 +10,7 @@ use Rattle.bp_base.specs.declared.point.Sheet.{Sheet}
 use Rattle.bp_base.specs.declared.point.Sheet.TheVariants.{Square, Strip}
 use Rattle.bp_base.specs.Tree.{TreeValue}
 use Rattle.bp_metric.specs.Chains.{chain_weight, last_of}
-use Rattle.bp_metric.specs.Coordinates.{AreShown, IsForced, IsGreatest, IsGreatestOn, IsLow, IsShown, IsShownOn, IsShownWalk, IsTooWide}
+use Rattle.bp_metric.specs.Coordinates.{AreShown, IsForced, IsGreatest, IsGreatestOn, IsLow, IsShown, IsShownOn, IsShownWalk}
 use Rattle.bp_metric.specs.Nodes.{counted}
 use Rattle.bp_metric.proofs.Lows.{last_more, one_greatest_on, one_low}
 use Rattle.bp_check.specs.Written.{CountsFrom}

@@ -44,5 +44,5 @@ module _ (R : RegionsValue) (xs ys : List ℕ) where
       ])
       h
 
-  pub all_rows : (row count : ℕ) (old : List Corner) → row ≡ count → AreCornersBefore R xs ys row 0 old → AreCornersBefore R xs ys count 0 old
-  all_rows row count old same h = subst (λ (k : ℕ). AreCornersBefore R xs ys k 0 old) same h
+  pub all_rows : (level count : ℕ) (old : List Corner) → level ≡ count → AreCornersBefore R xs ys level 0 old → AreCornersBefore R xs ys count 0 old
+  all_rows level count old same h = subst (λ (k : ℕ). AreCornersBefore R xs ys k 0 old) same h

@@ -13,20 +13,20 @@ pub fn corners_of(alloc: Global, mesh: &Mesh) -> Result<Vec<Corner>, NoMemory>
     ensures { IfOk result (λ v. HasCorners mesh.now v.items) }
 {
     let mut corners = Vec::new(alloc);
-    for row in 0..mesh.ys.len() {
-        add_row(&mut corners, mesh, row)?;
+    for level in 0..mesh.ys.len() {
+        add_row(&mut corners, mesh, level)?;
     }
     Ok(corners)
 }
 
-fn add_row(corners: &mut Vec<Corner>, mesh: &Mesh, row: usize) -> Result<(), NoMemory>
+fn add_row(corners: &mut Vec<Corner>, mesh: &Mesh, level: usize) -> Result<(), NoMemory>
     requires mesh { FitsRegions mesh.now }
-    requires row { row < length mesh.now.ys.now }
-    requires before { HasCornersBefore mesh.now row 0 corners.old.items }
-    ensures { OnOk result (HasCornersBefore mesh.now (row + 1) 0 corners.new.items) }
+    requires level { level < length mesh.now.ys.now }
+    requires before { HasCornersBefore mesh.now level 0 corners.old.items }
+    ensures { OnOk result (HasCornersBefore mesh.now (level + 1) 0 corners.new.items) }
 {
     for column in 0..mesh.xs.len() {
-        add_corner(corners, mesh, column, row)?;
+        add_corner(corners, mesh, column, level)?;
     }
     Ok(())
 }

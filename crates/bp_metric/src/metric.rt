@@ -77,6 +77,14 @@ impl Metric {
         self.sheet
     }
 
+    /// Puts the tips on another sheet. It takes no memory. A strip's width is at most 999,999.
+    pub fn set_sheet(&mut self, sheet: Sheet)
+        requires { IsSheet sheet }
+        ensures { self.new ≡ record { tree = self.old.tree; sheet = sheet } }
+    {
+        self.sheet = sheet;
+    }
+
     /// The number of leaves.
     pub fn leaves(&self) -> u64
         ensures count { result ≡ leaf_count self.now.tree }

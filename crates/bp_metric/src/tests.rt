@@ -74,8 +74,10 @@ fn sheets(rt: HostRuntime) -> Result<(), Fail> {
     let square = Metric::of(rt.alloc(), &tree)?;
     shares(&square);
     assert_eq!(rt; square.sheet(), Sheet::Square);
-    let strip = Metric::on(rt.alloc(), &tree, Sheet::Strip { width: 4 })?;
+    let mut strip = Metric::on(rt.alloc(), &tree, Sheet::Strip { width: 4 })?;
     assert_eq!(rt; strip.sheet(), Sheet::Strip { width: 4 });
+    strip.set_sheet(Sheet::Strip { width: 0 });
+    assert_eq!(rt; strip.sheet(), Sheet::Strip { width: 0 });
     triangle(&strip);
     leaves_apart(&strip);
     twins_alike(&strip);

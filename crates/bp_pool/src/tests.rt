@@ -136,43 +136,70 @@ fn take_from_memory(rt: HostRuntime) -> Result<(), Fail> {
     Ok(())
 }
 
-// Pushes two tasks and takes until nothing comes, and counts each bound that it took.
-fn hold_turn(alloc: Global, hand: &mut Hand, place: usize, counts: &[AtomicU64; 9])
-    requires { (hand.old.pool.leaves ≡ 4) × (place < 4) }
+// How many tasks each of four hands pushes. Their bounds are 1 to four times as many; the root's is 0.
+const EACH: u64 = 1_000;
+const ALL: usize = 4_001;
+
+// Takes a task, where there is one, and counts its bound.
+fn take_one(hand: &mut Hand, counts: &[AtomicU64])
+    requires { length counts.now ≡ 4001 }
+    ensures { hand.new.pool.leaves ≡ hand.old.pool.leaves }
 {
-    add(alloc, hand, 4, 2 * place as u64 + 1);
-    add(alloc, hand, 4, 2 * place as u64 + 2);
-    for _ in 0..20 {
-        if let Take::Task(task) = hand.take() {
-            counts[(task.bound % 9) as usize].fetch_add(1, Ordering::SeqCst);
-        }
+    if let Take::Task(task) = hand.take() {
+        counts[(task.bound % ALL as u64) as usize].fetch_add(1, Ordering::SeqCst);
+    }
+}
+
+// Takes so many times.
+fn take_many(hand: &mut Hand, times: u64, counts: &[AtomicU64])
+    requires { length counts.now ≡ 4001 }
+    ensures { hand.new.pool.leaves ≡ hand.old.pool.leaves }
+{
+    for _ in 0..times {
+        take_one(hand, counts);
+    }
+}
+
+// Pushes its tasks and takes as often, now its own and now those of others.
+fn hold_turn(alloc: Global, hand: &mut Hand, place: usize, counts: &[AtomicU64])
+    requires { (hand.old.pool.leaves ≡ 4) × (place < 4) × (length counts.now ≡ 4001) }
+    ensures { hand.new.pool.leaves ≡ 4 }
+{
+    for k in 0..EACH {
+        add(alloc, hand, 4, EACH * place as u64 + k + 1);
+        take_many(hand, k % 3, counts);
     }
 }
 
 // Four hands, each in a thread of its own.
-fn four_turns<R: Threads + Sync>(rt: &R, alloc: Global, hands: &mut [Hand], counts: &[AtomicU64; 9])
-    requires { All (λ h. h.pool.leaves ≡ 4) hands.old × (length hands.old ≡ 4) }
+fn four_turns<R: Threads + Sync>(rt: &R, alloc: Global, hands: &mut [Hand], counts: &[AtomicU64])
+    requires { All (λ h. h.pool.leaves ≡ 4) hands.old × (length hands.old ≡ 4) × (length counts.now ≡ 4001) }
+    ensures { All (λ h. h.pool.leaves ≡ 4) hands.new }
 {
     thread::for_each_mut(rt, hands, 4, &|k, hand| hold_turn(alloc, hand, k, counts));
 }
 
+fn counters(alloc: Global) -> Result<Vec<AtomicU64>, Fail>
+    ensures { IfOk result (λ v. length v.items ≡ 4001) }
+{
+    let mut counts = Vec::with_capacity(alloc, ALL)?;
+    for _ in 0..ALL {
+        counts.push(AtomicU64::new(0))?;
+    }
+    Ok(counts)
+}
+
+// Some thousand tasks, each pushed once, are each taken once.
 #[test]
 fn four_threads(rt: HostRuntime) -> Result<(), Fail> {
     let mut hands = open(rt.alloc(), 4, 4, task(rt.alloc(), 4, 0))?;
-    let counts = [
-        AtomicU64::new(0),
-        AtomicU64::new(0),
-        AtomicU64::new(0),
-        AtomicU64::new(0),
-        AtomicU64::new(0),
-        AtomicU64::new(0),
-        AtomicU64::new(0),
-        AtomicU64::new(0),
-        AtomicU64::new(0),
-    ];
+    let counts = counters(rt.alloc())?;
     four_turns(&rt, rt.alloc(), hands.as_mut_slice(), &counts);
-    for k in 0..9 {
-        assert_eq!(rt; counts[k].load(Ordering::SeqCst), 1);
+    for k in 0..4 {
+        take_many(&mut hands[k], ALL as u64, &counts);
+    }
+    for count in counts.as_slice() {
+        assert_eq!(rt; count.load(Ordering::SeqCst), 1);
     }
     Ok(())
 }

@@ -6,6 +6,7 @@ ghost use Rattle.bp_core.specs.Underway.{IsUnderway};
 
 use crate::turns::work_on;
 use bp_base::{NoMemory, Settled};
+use bp_branch::PairOrder;
 use bp_metric::Metric;
 use bp_warm::Warm;
 use std::alloc::Global;
@@ -26,11 +27,12 @@ pub fn search(
     ensures underway { IfOk result (λ Z. IsUnderway metric.now.tree metric.now.sheet budget Z) }
 {
     let mut search = start;
+    let order = PairOrder::of(alloc, metric)?;
     let mut warm = Warm::open(alloc, metric)?;
     while search.side > floor && search.examined < budget {
         match search.left.pop() {
             None => return Ok(search),
-            Some(task) => work_on(alloc, metric, &mut warm, &mut search, task)?,
+            Some(task) => work_on(alloc, metric, &order, &mut warm, &mut search, task)?,
         }
     }
     Ok(search)

@@ -7,20 +7,22 @@ ghost use Rattle.bp_metric.specs.Coordinates.{IsLeast};
 ghost use Rattle.bp_metric.specs.Metric.{MetricValue};
 ghost use Rattle.bp_metric.specs.Next.{IsNextPair};
 ghost use Rattle.bp_branch.specs.Branches.{IsBranch};
+ghost use Rattle.bp_branch.specs.Orders.{IsPairOrder};
 ghost use Rattle.bp_branch.specs.Outcomes.{IsCyclic, IsOutcome};
 ghost use Rattle.bp_warm.specs.Warm.{WarmValue, pair_count};
 ghost use Rattle.bp_stack.specs.Turns.{Follows, IsOnItsWay, IsTaken};
 
 use crate::children::push_children;
 use bp_base::{Least, NoMemory, Outcome, Record, RecordKind, Settled, Task};
-use bp_branch::{judge, low_points};
+use bp_branch::{PairOrder, low_points};
 use bp_metric::Metric;
 use bp_pairs::allowed;
 use bp_warm::Warm;
 use std::alloc::Global;
 
 // What the branch is against its bound. A branch has no cycle.
-fn judged(metric: &Metric, warm: &mut Warm, task: &Task) -> Outcome
+fn judged(metric: &Metric, order: &PairOrder, warm: &mut Warm, task: &Task) -> Outcome
+    requires order { IsPairOrder metric.now.tree order.now }
     requires warm { warm.old.metric ≡ metric.now }
     requires branch { IsBranch metric.now.tree task.now.path }
     requires short { length task.now.path ≤ pair_count metric.now.tree }
@@ -31,7 +33,7 @@ fn judged(metric: &Metric, warm: &mut Warm, task: &Task) -> Outcome
 {
     match warm.go_to(metric, &task.path) {
         Some(_) => unreachable!(),
-        None => judge(metric, warm.least(), task.bound),
+        None => order.judge(metric, warm.least(), task.bound),
     }
 }
 
@@ -71,10 +73,12 @@ fn follow(
 pub fn work_on(
     alloc: Global,
     metric: &Metric,
+    order: &PairOrder,
     warm: &mut Warm,
     search: &mut Settled,
     task: Task,
 ) -> Result<(), NoMemory>
+    requires order { IsPairOrder metric.now.tree order.now }
     requires warm { warm.old.metric ≡ metric.now }
     requires taken { IsTaken metric.now.tree metric.now.sheet search.old task }
     requires ticket { search.old.examined < u64.MAX }
@@ -88,7 +92,7 @@ pub fn work_on(
         path: task.path,
         bound: given.min(search.side),
     };
-    let outcome = judged(metric, warm, &task);
+    let outcome = judged(metric, order, warm, &task);
     let kind = follow(alloc, metric, warm.least(), search, &task, outcome)?;
     let Task { path, bound } = task;
     search.records.push(Record {

@@ -3,7 +3,7 @@ use Rattle.bp_engine.proofs.Searches.{opening_above}
 use Rattle.bp_engine.proofs.searched.searched.Goals as goal
 
 pub search-requires-clause-underway : goal.search-requires-clause-underway
-search-requires-clause-underway c = c.in_ok-start.ensures.underway c.args.budget
+search-requires-clause-underway c = c.in_ok-start.ensures.underway _
 
 pub document_of-requires-clause-above : goal.document_of-requires-clause-above
 document_of-requires-clause-above c = opening_above c.args.metric.now.tree c.args.metric.now.sheet c.args.opening c.args.floor c.requires.opening c.requires.apart c.one_opening.ensures
