@@ -1,4 +1,5 @@
-ghost use Rattle.std.specs.Prelude.{◌≡◌, ◌<◌, ◌≤◌, [], ◌∷◌, ◌++◌, length, slice_get, Some, OnOk, OnErr, IfOk};
+ghost use Rattle.std.specs.Prelude.{◌≡◌, ◌<◌, ◌≤◌, [], ◌∷◌, ◌++◌, length, slice_get, take, Some, OnOk, OnErr, IfOk};
+ghost use Rattle.bp_base.specs.declared.path.Packed.{Packed as AnyPacked};
 
 use crate::NoMemory;
 use smallvec::SmallVec;
@@ -30,7 +31,7 @@ pub struct Step {
 }
 
 // A step in three bytes.
-#[derive(Clone, Copy, Default)]
+#[derive(Clone, Copy, Default, PartialEq, Eq)]
 struct Packed {
     i: u8,
     j: u8,
@@ -40,7 +41,8 @@ struct Packed {
 /// A branch of the search: at most 496 steps, each for a pair of 32 leaves.
 #[derive(Drop)]
 pub struct Path {
-    steps: SmallVec<Packed, 16>,
+    // five steps take no more room than the vector of a longer path, and most paths of a search are longer
+    steps: SmallVec<Packed, 5>,
 }
 
 impl Model for Path {
@@ -58,6 +60,7 @@ impl Model for Path {
 }
 
 impl Path {
+    ghost use Rattle.bp_base.specs.declared.path.Step.{Step as AnyStep};
     ghost use Rattle.bp_base.specs.Limits.{most_steps};
     ghost use Rattle.bp_base.specs.Path.{IsPath, IsSmallPair};
 
@@ -70,6 +73,7 @@ impl Path {
         }
     }
 
+    #[inline]
     pub fn len(&self) -> u64
         ensures length { result ≡ length self.now }
         ensures path { IsPath self.now }
@@ -78,6 +82,7 @@ impl Path {
     }
 
     /// The step of number k, from 0 on.
+    #[inline]
     pub fn at(&self, k: u64) -> Step
         requires { k < length self.now }
         ensures step { slice_get self.now k ≡ Some result }
@@ -121,8 +126,46 @@ impl Path {
         let steps = SmallVec::from_slice(alloc, self.steps.as_slice())?;
         Ok(Path { steps })
     }
+
+    /// The path with one more step, in a copy with room for just that.
+    pub fn extended(&self, alloc: Global, step: Step) -> Result<Path, NoMemory>
+        requires room { length self.now < most_steps }
+        requires pair { IsSmallPair step.pair }
+        ensures { IfOk result (λ p. p ≡ self.now ++ step ∷ []) }
+    {
+        let mut steps = SmallVec::with_capacity(alloc, self.steps.len() + 1)?;
+        steps.extend_from_slice(self.steps.as_slice())?;
+        let mut path = Path { steps };
+        path.push(step)?;
+        Ok(path)
+    }
+
+    /// How many steps at their beginnings the paths have in common.
+    pub fn common(&self, other: &Path) -> u64
+        ensures within { (result ≤ length self.now) × (result ≤ length other.now) }
+        ensures same { take result self.now ≡ take result other.now }
+        ensures most { (s : AnyStep) → slice_get self.now result ≡ Some s → slice_get other.now result ≡ Some s → ⊥ }
+    {
+        in_common(self.steps.as_slice(), other.steps.as_slice()) as u64
+    }
 }
 
+// How many elements at their beginnings the slices have in common.
+fn in_common(first: &[Packed], second: &[Packed]) -> usize
+    ensures within { (result ≤ length first.now) × (result ≤ length second.now) }
+    ensures same { take result first.now ≡ take result second.now }
+    ensures most { (s : AnyPacked) → slice_get first.now result ≡ Some s → slice_get second.now result ≡ Some s → ⊥ }
+{
+    let shorter = first.len().min(second.len());
+    for k in 0..shorter {
+        if first[k] != second[k] {
+            return k;
+        }
+    }
+    shorter
+}
+
+#[inline]
 fn unpacked(packed: Packed) -> Step
     ensures { result ≡ record { pair = record { i = packed.i; j = packed.j }; choice = packed.choice } }
 {

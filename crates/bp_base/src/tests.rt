@@ -4,6 +4,7 @@ ghost use Rattle.bp_base.specs.Path.{IsSmallPair};
 use super::*;
 use sqlite_items::Items;
 use std::alloc::Global;
+use std::process::Abort;
 use std::test::Fail;
 
 fn moves<T: Send>(_: &T) {}
@@ -110,6 +111,7 @@ fn paths(rt: HostRuntime) -> Result<(), Fail> {
             path = pushed(path, step(1, j, choice))?;
         }
     }
+    have_in_common(&rt, rt.alloc(), &path, &kept)?;
     assert_eq!(rt; path.len(), 117);
     assert_eq!(rt; path.at(116), step(1, 31, Choice::Above));
     moves(&path);
@@ -117,6 +119,20 @@ fn paths(rt: HostRuntime) -> Result<(), Fail> {
     let task = Task { path, bound: 5 };
     moves(&task);
     shares(&task);
+    Ok(())
+}
+
+// Paths that have one step in common, where the second has two.
+fn have_in_common(rt: &impl Abort, alloc: Global, path: &Path, kept: &Path) -> Result<(), Fail> {
+    assert_eq!(rt; path.common(kept), 1);
+    assert_eq!(rt; path.common(path), path.len());
+    assert_eq!(rt; path.common(&Path::empty(alloc)), 0);
+    if path.len() < MOST_STEPS {
+        let longer = path.extended(alloc, step(30, 31, Choice::Below))?;
+        assert_eq!(rt; longer.len(), path.len().saturating_add(1));
+        assert_eq!(rt; longer.common(path), path.len());
+        assert_eq!(rt; path.common(&longer), path.len());
+    }
     Ok(())
 }
 
