@@ -1,5 +1,5 @@
 -- Hands that are sorted by their numbers stand in order.
-use Rattle.std.proofs.Common.{◌≡◌, ℕ, zero, suc, ◌+◌, ◌<◌, ◌≤◌, cond, nat_lt, List, [], ◌∷◌, length, map, get_or, refl, sym, ◌∙◌, ap, arith, inl, inr, ◌⊎◌}
+use Rattle.std.proofs.Common.{◌≡◌, ℕ, zero, suc, ◌+◌, ◌<◌, ◌≤◌, cond, nat_lt, List, [], ◌∷◌, ◌++◌, length, map, take, get_or, refl, sym, ◌∙◌, ap, arith, inl, inr, ◌⊎◌}
 use Rattle.std.specs.List.{range_with_len, sum_by, flat_map}
 use Rattle.std.specs.List.Sorted.{IsPermutation, IsNonDecreasingBy}
 use Rattle.std.proofs.lemmas.List.{length-map, get_or-map}
@@ -11,9 +11,9 @@ use Rattle.bp_base.specs.Bags.{AreSame}
 use Rattle.bp_base.proofs.Bags.{sum_by-map, sum_by-flat_map}
 use Rattle.bp_base.specs.declared.record.Task.{Task}
 use Rattle.bp_pool.specs.Rest.{PoolView}
-use Rattle.bp_pool.specs.Hands.{HandView, IsSameHand}
+use Rattle.bp_pool.specs.Hands.{HandView}
 use Rattle.bp_pool.specs.Opens.{IsNewPool}
-use Rattle.bp_pool.specs.Rows.{IsWhole, IsInOrder}
+use Rattle.bp_pool.specs.Rows.{AreKept, IsWhole, IsInOrder}
 
 -- 1 for a number below a, and else 0
 abbrev under : ℕ → ℕ → ℕ
@@ -112,11 +112,7 @@ numbered (v ∷ vs) s (suc n) long each =
     let rest = numbered vs (s + 1) n (omega (arith, long)) (λ k d less. omega (arith, each (suc k) d (omega (arith, less)))) in
     λ i. first i ∷ rest i
 
--- hands of a new pool, each as it was but for what it pushed and took, are all hands of it
-pub record AreKept (all later : List HandView) : Type 0 where
-  pub long : length later ≡ length all
-  pub each : (k : ℕ) (d : HandView) → k < length all → IsSameHand (get_or all k d) (get_or later k d)
-
+-- hands of a new pool that stay in their places are all hands of it
 pub whole_of_new : (hands leaves : ℕ) (root : Task) (all later : List HandView) (new : IsNewPool hands leaves root all) → 0 < hands → AreKept all later → IsWhole new.pool later
 whole_of_new hands leaves root all later new some kept = record {
   some = omega (arith, some, kept.long, new.count);
@@ -131,3 +127,10 @@ whole_of_new hands leaves root all later new some kept = record {
 
     numbers : map number later ≡ range_with_len 1 (length new.pool.deques)
     numbers = numbered later 1 (length new.pool.deques) (omega (arith, kept.long, new.count)) (λ k d less. at k d (omega (arith, less, kept.long, new.count)))
+
+-- what a slice wrote stands before the rest
+pub take_front : {X : Type 0} (xs rest : List X) (n : ℕ) → length xs ≡ n → take n (xs ++ rest) ≡ xs
+take_front [] rest zero long = refl
+take_front [] rest (suc n) long = absurd (omega (arith, long))
+take_front (x ∷ xs) rest zero long = absurd (omega (arith, long))
+take_front (x ∷ xs) rest (suc n) long = ap (λ l. x ∷ l) (take_front xs rest n (omega (arith, long)))

@@ -7,7 +7,7 @@ use Rattle.bp_base.specs.Bags.{AreSame}
 use Rattle.bp_pool.specs.declared.hand.Theft.{Theft}
 use Rattle.bp_pool.specs.Shares.{count_of, pushed_of, taken_of, Works, HasAll, facts_of}
 use Rattle.bp_pool.specs.Rest.{DequeId, PoolView}
-use Rattle.bp_pool.specs.Hands.{HandView}
+use Rattle.bp_pool.specs.Hands.{HandView, IsSameHand}
 use Rattle.std.specs.List.{range_with_len}
 use Rattle.bp_pool.specs.Kept.{Deque, each_of, total_of, given_to, IsTheft, deques_of}
 
@@ -63,6 +63,11 @@ count_pushed all = sum_by (λ (v : HandView). length v.pushed) all
 
 abbrev pub count_taken : List HandView → ℕ
 count_taken all = sum_by (λ (v : HandView). length v.taken) all
+
+-- each hand stays in its place
+pub record AreKept (all later : List HandView) : Type 0 where
+  pub long : length later ≡ length all
+  pub each : (k : ℕ) (d : HandView) → k < length all → IsSameHand (slice_index_or all k d) (slice_index_or later k d)
 
 -- these are all hands of the pool, in whatever order
 pub record IsWhole (pool : PoolView) (all : List HandView) : Type 0 where

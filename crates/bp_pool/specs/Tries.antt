@@ -68,8 +68,9 @@ EachRose old new hands = (k : ℕ) → k < hands → Rose old new k
 abbrev pub EachTried : List ℕ → List ℕ → List ℕ → List ℕ → ℕ → Type 0
 EachTried misses misses' lost lost' hands = (k : ℕ) → k < hands → Rose misses misses' k ⊎ Rose lost lost' k
 
+-- there are several hands, and for one of them the count rose
 abbrev pub SomeLost : List ℕ → List ℕ → ℕ → Type 0
-SomeLost old new hands = (k : ℕ) × (k < hands) × Rose old new k
+SomeLost old new hands = (1 < hands) × (k : ℕ) × (k < hands) × Rose old new k
 
 -- the place of the k-th other hand, in order and round
 abbrev pub place : ℕ → ℕ → ℕ → ℕ

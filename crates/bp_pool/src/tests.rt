@@ -2,6 +2,7 @@ ghost use Rattle.std.specs.Prelude.{◌≡◌, ◌<◌, ◌≤◌, [], All, IfOk
 ghost use Rattle.bp_base.specs.declared.record.Task.{Task as AnyTask};
 ghost use Rattle.bp_pool.specs.Hands.{IsSameHand};
 ghost use Rattle.bp_pool.specs.Opens.{IsNewPool};
+ghost use Rattle.bp_pool.specs.Rows.{AreKept};
 ghost use Rattle.bp_pool.specs.Shares.{IsTaskOf};
 
 use super::*;
@@ -92,6 +93,16 @@ fn all_come_back(rt: HostRuntime) -> Result<(), Fail> {
     Ok(())
 }
 
+// The first hand's own deque has the root, and the second's has nothing.
+#[test]
+fn root_in_first(rt: HostRuntime) -> Result<(), Fail> {
+    let mut hands = open(rt.alloc(), 2, 4, task(rt.alloc(), 4, 10))?;
+    let second = hands.pop().and_then(|mut hand| hand.pop());
+    let first = hands.pop().and_then(|mut hand| hand.pop());
+    assert!(rt; second.is_none() && first.is_some());
+    Ok(())
+}
+
 #[test]
 fn one_hand(rt: HostRuntime) -> Result<(), Fail> {
     let mut hands = open(rt.alloc(), 1, 4, task(rt.alloc(), 4, 10))?;
@@ -138,32 +149,32 @@ fn take_from_memory(rt: HostRuntime) -> Result<(), Fail> {
 
 // How many tasks each of four hands pushes. Their bounds are 1 to four times as many; the root's is 0.
 const EACH: u64 = 1_000;
+
 const ALL: usize = 4_001;
 
-// Takes a task, where there is one, and counts its bound.
-fn take_one(hand: &mut Hand, counts: &[AtomicU64])
+// Counts a task by its bound.
+fn count(task: &Task, counts: &[AtomicU64])
     requires { length counts.now ≡ 4001 }
-    ensures { hand.new.pool.leaves ≡ hand.old.pool.leaves }
 {
-    if let Take::Task(task) = hand.take() {
-        counts[(task.bound % ALL as u64) as usize].fetch_add(1, Ordering::SeqCst);
-    }
+    counts[(task.bound % ALL as u64) as usize].fetch_add(1, Ordering::SeqCst);
 }
 
 // Takes so many times.
 fn take_many(hand: &mut Hand, times: u64, counts: &[AtomicU64])
     requires { length counts.now ≡ 4001 }
-    ensures { hand.new.pool.leaves ≡ hand.old.pool.leaves }
+    ensures { IsSameHand hand.old hand.new }
 {
     for _ in 0..times {
-        take_one(hand, counts);
+        if let Take::Task(task) = hand.take() {
+            count(&task, counts);
+        }
     }
 }
 
 // Pushes its tasks and takes as often, now its own and now those of others.
 fn hold_turn(alloc: Global, hand: &mut Hand, place: usize, counts: &[AtomicU64])
     requires { (hand.old.pool.leaves ≡ 4) × (place < 4) × (length counts.now ≡ 4001) }
-    ensures { hand.new.pool.leaves ≡ 4 }
+    ensures { IsSameHand hand.old hand.new }
 {
     for k in 0..EACH {
         add(alloc, hand, 4, EACH * place as u64 + k + 1);
@@ -174,7 +185,7 @@ fn hold_turn(alloc: Global, hand: &mut Hand, place: usize, counts: &[AtomicU64])
 // Four hands, each in a thread of its own.
 fn four_turns<R: Threads + Sync>(rt: &R, alloc: Global, hands: &mut [Hand], counts: &[AtomicU64])
     requires { All (λ h. h.pool.leaves ≡ 4) hands.old × (length hands.old ≡ 4) × (length counts.now ≡ 4001) }
-    ensures { All (λ h. h.pool.leaves ≡ 4) hands.new }
+    ensures { AreKept hands.old hands.new }
 {
     thread::for_each_mut(rt, hands, 4, &|k, hand| hold_turn(alloc, hand, k, counts));
 }
@@ -182,24 +193,39 @@ fn four_turns<R: Threads + Sync>(rt: &R, alloc: Global, hands: &mut [Hand], coun
 fn counters(alloc: Global) -> Result<Vec<AtomicU64>, Fail>
     ensures { IfOk result (λ v. length v.items ≡ 4001) }
 {
-    let mut counts = Vec::with_capacity(alloc, ALL)?;
+    let mut counts = Vec::new(alloc);
     for _ in 0..ALL {
         counts.push(AtomicU64::new(0))?;
     }
     Ok(counts)
 }
 
-// Some thousand tasks, each pushed once, are each taken once.
+fn count_all(tasks: &[Task], counts: &[AtomicU64])
+    requires { length counts.now ≡ 4001 }
+{
+    for task in tasks {
+        count(task, counts);
+    }
+}
+
+fn is_each_once(counts: &[AtomicU64]) -> bool {
+    for count in counts {
+        if count.load(Ordering::SeqCst) != 1 {
+            return false;
+        }
+    }
+    true
+}
+
+// Of some thousand tasks, each pushed once, each is taken once or left once.
 #[test]
 fn four_threads(rt: HostRuntime) -> Result<(), Fail> {
     let mut hands = open(rt.alloc(), 4, 4, task(rt.alloc(), 4, 0))?;
     let counts = counters(rt.alloc())?;
-    four_turns(&rt, rt.alloc(), hands.as_mut_slice(), &counts);
-    for k in 0..4 {
-        take_many(&mut hands[k], ALL as u64, &counts);
-    }
-    for count in counts.as_slice() {
-        assert_eq!(rt; count.load(Ordering::SeqCst), 1);
-    }
+    four_turns(&rt, rt.alloc(), hands.as_mut_slice(), counts.as_slice());
+    let gathered = gather(rt.alloc(), hands)?;
+    count_all(gathered.left.as_slice(), counts.as_slice());
+    assert!(rt; is_each_once(counts.as_slice()));
+    assert_eq!(rt; gathered.pushed, ALL as u64);
     Ok(())
 }

@@ -58,7 +58,7 @@ loop-k-preserved g c =
         own = missed _ inv.own;
         tried = one_more Old New number hands c.loop-k.k from c.other-from.ensures.place inv.tried keeps (inl here);
         all_missed = λ e. one_more (λ (i : ℕ). Rose (g.Q.Tries.misses old) (g.Q.Tries.misses mid) i) (λ (i : ℕ). Rose (g.Q.Tries.misses old) (g.Q.Tries.misses new) i) number hands c.loop-k.k from c.other-from.ensures.place (inv.all_missed (sym w.lost-is ∙ e)) missed here;
-        some_lost = λ e. let s = inv.some_lost (sym w.lost-is ∙ e) in (s.0, s.1, lost s.0 s.2);
+        some_lost = λ e. let s = inv.some_lost (sym w.lost-is ∙ e) in (s.0, s.1, s.2, lost s.1 s.3);
         deques = to_fn (idle_on _ _ _ _ _ c.loop-k.k from c.loop-k.lost c.match-steal.lost (from_fn inv.deques) w.lost-is c.other-from.ensures.place w.in-Empty.ensures.deques);
         taken = grew_on _ _ _ None inv.taken w.in-Empty.ensures.taken;
       }
@@ -74,7 +74,7 @@ loop-k-preserved g c =
         own = missed _ inv.own;
         tried = one_more Old New number hands c.loop-k.k from c.other-from.ensures.place inv.tried keeps (inr here);
         all_missed = λ e. absurd (true≢false (sym w.lost-is ∙ e));
-        some_lost = λ e. (from - 1, omega (arith, c.other-from.ensures.in_range, inv.is_hands), here);
+        some_lost = λ e. (omega (arith, c.loop-k-test.true, inv.is_hands), from - 1, omega (arith, c.other-from.ensures.in_range, inv.is_hands), here);
         deques = idle_lost _ _ _ _ _ c.loop-k.k from c.loop-k.lost c.match-steal.lost inv.deques w.in-Lost.ensures.deques;
         taken = grew_on _ _ _ None inv.taken w.in-Lost.ensures.taken;
       }
