@@ -173,13 +173,15 @@ fn pass_on(alloc: Global, hand: &mut Hand, leaves: u64, rounds: u64) -> u64
 
 const PASSES: u64 = 2_000_000;
 
+// So many pushes and takes in a pool of one hand; how often there was a task.
+fn passed(alloc: Global) -> Result<u64, NoMemory> {
+    let mut hands = bp_pool::open(alloc, 1, 16, task(alloc, 16))?;
+    Ok(pass_on(alloc, &mut hands[0], 16, PASSES))
+}
+
 fn timed_pool(rt: &impl Runtime, alloc: Global) -> io::Result<()> {
-    let mut hands = match bp_pool::open(alloc, 1, 16, task(alloc, 16)) {
-        Ok(hands) => hands,
-        Err(NoMemory) => return Ok(()),
-    };
     let start = Instant::now(rt)?;
-    let count = pass_on(alloc, &mut hands[0], 16, PASSES);
+    let count = passed(alloc).unwrap_or(0);
     let spent = start.elapsed(rt)?.as_millis();
     eprintln!(rt; "{count} pushes with takes of a hand in {spent} ms")?;
     Ok(())
