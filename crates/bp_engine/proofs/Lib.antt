@@ -12,3 +12,6 @@ mod NodeParts
 mod FoundNodes
 mod Covered
 mod Searches
+mod Outcomes
+mod Completed
+mod Asking
