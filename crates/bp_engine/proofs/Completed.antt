@@ -21,13 +21,13 @@ use Rattle.bp_engine.specs.Run.{IsDoneOrGivenUp, IsDoneOrNo}
 use Rattle.bp_engine.specs.Texts.{number_of}
 
 module _ (left after : Option (List ℕ)) (b : List ℕ) (some : left ≡ Some b) where
-  no_tree_fault : (T : TreeValue) (fault : TreeFault) → TreeOf b T → Told left (λ c. IsRefused (take most_read c) fault × (after ≡ Some (drop most_read c))) → ⊥
+  pub no_tree_fault : (T : TreeValue) (fault : TreeFault) → TreeOf b T → Told left (λ c. IsRefused (take most_read c) fault × (after ≡ Some (drop most_read c))) → ⊥
   no_tree_fault T fault tree told =
       let h : IsRefused (take most_read b) fault × (after ≡ Some (drop most_read b)) = subst (λ (l : Option (List ℕ)). Told l (λ c. IsRefused (take most_read c) fault × (after ≡ Some (drop most_read c)))) some told in
       let whole : take most_read b ≡ b = take_all most_read b (omega (arith, tree.short)) in
       h.0.no_tree T (subst (λ (c : List ℕ). TreeOf c T) (sym whole) tree)
 
-  no_doc_fault : (D : Document) (fault : DocFault) → IsTextOf b D → ReadsNoDoc left after (DocRefused fault) → ⊥
+  pub no_doc_fault : (D : Document) (fault : DocFault) → IsTextOf b D → ReadsNoDoc left after (DocRefused fault) → ⊥
   no_doc_fault D fault text told =
       let h : IsRefusedDoc (take most_doc_read b) fault × (after ≡ Some (drop most_doc_read b)) = subst (λ (l : Option (List ℕ)). ReadsNoDoc l after (DocRefused fault)) some told in
       let whole : take most_doc_read b ≡ b = take_all most_doc_read b (omega (arith, text.short)) in

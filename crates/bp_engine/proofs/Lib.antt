@@ -15,3 +15,4 @@ mod Searches
 mod Outcomes
 mod Completed
 mod Asking
+mod Checked

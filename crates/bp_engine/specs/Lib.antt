@@ -5,4 +5,5 @@ pub mod Designs
 pub mod Outcomes
 pub mod Run
 pub mod Documents
+pub mod Checking
 pub mod Searched

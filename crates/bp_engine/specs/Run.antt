@@ -7,10 +7,12 @@ use Rattle.bp_base.specs.declared.point.Sheet.TheVariants.{Square, Strip}
 use Rattle.bp_base.specs.Causes.{Rose, Appends, AppendsFront}
 use Rattle.bp_base.specs.Limits.{most_budget}
 use Rattle.bp_base.specs.Tree.{TreeValue}
+use Rattle.bp_tree.specs.declared.fault.TreeFault.{TreeFault}
 use Rattle.bp_tree.specs.Text.{TreeOf}
 use Rattle.bp_metric.specs.Metric.{IsSheet}
 use Rattle.bp_metric.specs.Stated.{CoversStated}
 use Rattle.bp_document.specs.declared.document.Document.{Document}
+use Rattle.bp_document.specs.declared.fault.DocFault.{DocFault}
 use Rattle.bp_document.specs.Faults.{IsTextOf}
 use Rattle.bp_check.specs.declared.verdict.Reason.{Reason}
 use Rattle.bp_engine.specs.declared.design.Asked.{Asked}
@@ -33,13 +35,12 @@ draws_of (Some place) = true
 abbrev pub asked_of : ℕ → Option ℕ → Option ℕ → Asked
 asked_of budget fold strip = record { sheet = sheet_of strip; budget = budget; draws = draws_of fold }
 
--- what isn't built yet of what the words ask for: every command but `design`, `contours` and `rewrite`, and of `design` replays and the steady
--- answer
+-- what isn't built yet of what the words ask for: `made`, `trial`, `revise` and `pieces`, and of `design` replays and the steady answer
 abbrev pub IsUnbuilt : Words → Type 0
 IsUnbuilt (Design workers budget None fold strip None) = ⊥
 IsUnbuilt (Design workers budget (Some seed) fold strip steady) = Unit {0}
 IsUnbuilt (Design workers budget None fold strip (Some questions)) = Unit {0}
-IsUnbuilt (Check tree) = Unit {0}
+IsUnbuilt (Check tree) = ⊥
 IsUnbuilt Contours = ⊥
 IsUnbuilt (Made leaves seed) = Unit {0}
 IsUnbuilt (Trial leaves seed) = Unit {0}
@@ -126,6 +127,10 @@ WritingFailed w out out' fold fold' = Rose out out' ⊎ (UsesFold w × Rose fold
 abbrev pub IsDoneOrNo : Status → Type 0
 IsDoneOrNo status = (status ≡ Done) ⊎ (((reason : Reason) × (status ≡ No reason)) ⊎ (status ≡ NoMemory))
 
+-- the status is one of these, or the tree or the document is refused
+abbrev pub IsJudged : Status → Type 0
+IsJudged status = IsDoneOrNo status ⊎ (((f : TreeFault) × (status ≡ TreeRefused f)) ⊎ ((f : DocFault) × (status ≡ DocRefused f)))
+
 -- the status is Done or want of memory, or the search was given up
 abbrev pub IsDoneOrGivenUp : Status → Type 0
 IsDoneOrGivenUp status = (status ≡ Done) ⊎ (((side bound : ℕ) × (status ≡ GaveUp side bound)) ⊎ (status ≡ NoMemory))
@@ -136,7 +141,8 @@ abbrev pub Completes : Words → Option (List ℕ) → Option (List ℕ) → Sta
 Completes (Design workers budget replay fold strip steady) tree doc status =
     (b : List ℕ) (T : TreeValue) → tree ≡ Some b → TreeOf b T
     → IsDoneOrGivenUp status × (CoversStated T (sheet_of strip) budget → (status ≡ Done) ⊎ (status ≡ NoMemory))
-Completes (Check tree_place) tree doc status = Unit {0}
+Completes (Check place) tree doc status =
+    (b c : List ℕ) → tree ≡ Some b → doc ≡ Some c → IsJudged status × ((T : TreeValue) (D : Document) → TreeOf b T → IsTextOf c D → IsDoneOrNo status)
 Completes Contours tree doc status = (b : List ℕ) (D : Document) → doc ≡ Some b → IsTextOf b D → IsDoneOrNo status
 Completes (Made leaves seed) tree doc status = Unit {0}
 Completes (Trial leaves seed) tree doc status = Unit {0}

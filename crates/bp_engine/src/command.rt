@@ -4,11 +4,14 @@ ghost use Rattle.bp_engine.specs.declared.words.Words.{Words};
 ghost use Rattle.std.specs.declared.option.Option.{Option};
 ghost use Rattle.bp_engine.specs.Run.{Answers, Completes, HasRanges, IsUnbuilt, ReadingFailed, Tells, UsesDoc, UsesFold, UsesTree, WritingFailed, asked_of, sheet_of};
 ghost use Rattle.bp_check.specs.declared.verdict.Reason.{Reason};
+ghost use Rattle.bp_tree.specs.declared.fault.TreeFault.{TreeFault};
+ghost use Rattle.bp_engine.specs.Checking.{ChecksBoth};
 ghost use Rattle.bp_engine.specs.Documents.{Draws, Rewrites};
 ghost use Rattle.bp_engine.specs.Texts.{text_of};
 ghost use Rattle.bp_engine.specs.Words.{IsWords};
 
 use crate::Status;
+use crate::checking::check_both;
 use crate::design::{Asked, design};
 use crate::drawing::draw;
 use crate::rewriting::rewrite;
@@ -41,10 +44,12 @@ pub fn run<R: Threads + Sync, T: Source, D: Source, K: Sink, F: Sink, E: Sink, G
     ensures design { (w : Words) → IsWords (map string_bytes words.now) w → (IsUnbuilt w → ⊥) → Answers w (T.left tree.old) (T.left tree.new) (record { out = K.held out.old; fold = F.held fold.old }) (record { out = K.held out.new; fold = F.held fold.new }) result }
     ensures rewrite { IsWords (map string_bytes words.now) Words.Rewrite → Rewrites (D.left doc.old) (D.left doc.new) (K.held out.old) (K.held out.new) result }
     ensures contours { IsWords (map string_bytes words.now) Words.Contours → Draws (D.left doc.old) (D.left doc.new) (K.held out.old) (K.held out.new) result }
+    ensures check { (place : ℕ) → IsWords (map string_bytes words.now) (Words.Check place) → ChecksBoth (T.left tree.old) (T.left tree.new) (D.left doc.old) (D.left doc.new) (K.held out.old) (K.held out.new) result }
 
-    // What isn't used is left as it was.
+    // What isn't used is left as it was, and so is the document where the tree is refused.
     ensures tree { (w : Words) → IsWords (map string_bytes words.now) w → (UsesTree w → ⊥) → tree.new ≡ tree.old }
     ensures doc { (w : Words) → IsWords (map string_bytes words.now) w → (UsesDoc w → ⊥) → doc.new ≡ doc.old }
+    ensures unread { (fault : TreeFault) → result ≡ Status.TreeRefused fault → doc.new ≡ doc.old }
     ensures fold { (w : Words) → IsWords (map string_bytes words.now) w → (UsesFold w → ⊥) → fold.new ≡ fold.old }
 
     ensures told { Tells (E.held err.old) (E.held err.new) (E.faults err.old) (E.faults err.new) (text_of result) }
@@ -82,8 +87,10 @@ fn answer<T: Source, D: Source, K: Sink, F: Sink>(
     ensures design { (w : Words) → IsWords (map string_bytes words.now) w → (IsUnbuilt w → ⊥) → Answers w (T.left tree.old) (T.left tree.new) (record { out = K.held out.old; fold = F.held fold.old }) (record { out = K.held out.new; fold = F.held fold.new }) result }
     ensures rewrite { IsWords (map string_bytes words.now) Words.Rewrite → Rewrites (D.left doc.old) (D.left doc.new) (K.held out.old) (K.held out.new) result }
     ensures contours { IsWords (map string_bytes words.now) Words.Contours → Draws (D.left doc.old) (D.left doc.new) (K.held out.old) (K.held out.new) result }
+    ensures check { (place : ℕ) → IsWords (map string_bytes words.now) (Words.Check place) → ChecksBoth (T.left tree.old) (T.left tree.new) (D.left doc.old) (D.left doc.new) (K.held out.old) (K.held out.new) result }
     ensures tree { (w : Words) → IsWords (map string_bytes words.now) w → (UsesTree w → ⊥) → tree.new ≡ tree.old }
     ensures doc { (w : Words) → IsWords (map string_bytes words.now) w → (UsesDoc w → ⊥) → doc.new ≡ doc.old }
+    ensures unread { (fault : TreeFault) → result ≡ Status.TreeRefused fault → doc.new ≡ doc.old }
     ensures fold { (w : Words) → IsWords (map string_bytes words.now) w → (UsesFold w → ⊥) → fold.new ≡ fold.old }
     ensures unwritten { (result ≡ Status.Done → ⊥) → ((side bound : ℕ) → result ≡ Status.GaveUp side bound → ⊥) → (result ≡ Status.WriteFault → ⊥) → ((r : Reason) → result ≡ Status.No r → ⊥) → (out.new ≡ out.old) × (fold.new ≡ fold.old) }
     ensures read { (w : Words) → IsWords (map string_bytes words.now) w → result ≡ Status.ReadFault → ReadingFailed w (T.faults tree.old) (T.faults tree.new) (D.faults doc.old) (D.faults doc.new) }
@@ -112,8 +119,10 @@ fn do_asked<T: Source, D: Source, K: Sink, F: Sink>(
     ensures design { (IsUnbuilt words → ⊥) → Answers words (T.left tree.old) (T.left tree.new) (record { out = K.held out.old; fold = F.held fold.old }) (record { out = K.held out.new; fold = F.held fold.new }) result }
     ensures rewrite { words ≡ Words.Rewrite → Rewrites (D.left doc.old) (D.left doc.new) (K.held out.old) (K.held out.new) result }
     ensures contours { words ≡ Words.Contours → Draws (D.left doc.old) (D.left doc.new) (K.held out.old) (K.held out.new) result }
+    ensures check { (place : ℕ) → words ≡ Words.Check place → ChecksBoth (T.left tree.old) (T.left tree.new) (D.left doc.old) (D.left doc.new) (K.held out.old) (K.held out.new) result }
     ensures tree { (UsesTree words → ⊥) → tree.new ≡ tree.old }
     ensures doc { (UsesDoc words → ⊥) → doc.new ≡ doc.old }
+    ensures unread { (fault : TreeFault) → result ≡ Status.TreeRefused fault → doc.new ≡ doc.old }
     ensures fold { (UsesFold words → ⊥) → fold.new ≡ fold.old }
     ensures unwritten { (result ≡ Status.Done → ⊥) → ((side bound : ℕ) → result ≡ Status.GaveUp side bound → ⊥) → (result ≡ Status.WriteFault → ⊥) → ((r : Reason) → result ≡ Status.No r → ⊥) → (out.new ≡ out.old) × (fold.new ≡ fold.old) }
     ensures read { result ≡ Status.ReadFault → ReadingFailed words (T.faults tree.old) (T.faults tree.new) (D.faults doc.old) (D.faults doc.new) }
@@ -130,6 +139,7 @@ fn do_asked<T: Source, D: Source, K: Sink, F: Sink>(
             strip,
             ..
         } => design(alloc, asked_of(budget, place, strip), tree, out, fold),
+        Words::Check { .. } => check_both(alloc, tree, doc, out),
         Words::Contours => draw(alloc, doc, out),
         Words::Rewrite => rewrite(alloc, doc, out),
         _ => Status::NotBuilt,
@@ -141,7 +151,7 @@ fn is_unbuilt(words: Words) -> bool
 {
     match words {
         Words::Design { replay, steady, .. } => replay.is_some() || steady.is_some(),
-        Words::Contours | Words::Rewrite => false,
+        Words::Check { .. } | Words::Contours | Words::Rewrite => false,
         _ => true,
     }
 }

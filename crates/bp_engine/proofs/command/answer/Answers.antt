@@ -1,6 +1,6 @@
 use Rattle.std.proofs.Common.{◌≡◌, sym, subst}
 use Rattle.bp_engine.specs.declared.words.Words.{Words}
-use Rattle.bp_engine.specs.declared.words.Words.TheVariants.{Contours, Rewrite}
+use Rattle.bp_engine.specs.declared.words.Words.TheVariants.{Check, Contours, Rewrite}
 use Rattle.bp_engine.specs.Run.{Answers, Completes, IsUnbuilt, ReadingFailed, UsesDoc, UsesFold, UsesTree, WritingFailed}
 use Rattle.bp_engine.proofs.Asking.{ranges}
 use Rattle.bp_engine.proofs.command.answer.Goals as goal
@@ -26,6 +26,10 @@ returns-in-Some-clause-rewrite g c = λ asks.
 pub returns-in-Some-clause-contours : goal.returns-in-Some-clause-contours
 returns-in-Some-clause-contours g c = λ asks.
     c.do_asked.ensures.contours (sym (c.one_meaning.ensures Contours c.in-Some.asked asks c.in-Some.ensures))
+
+pub returns-in-Some-clause-check : goal.returns-in-Some-clause-check
+returns-in-Some-clause-check g c = λ place asks.
+    c.do_asked.ensures.check place (sym (c.one_meaning.ensures (Check place) c.in-Some.asked asks c.in-Some.ensures))
 
 pub returns-in-Some-clause-tree : goal.returns-in-Some-clause-tree
 returns-in-Some-clause-tree g c = λ w asks unused.
@@ -57,3 +61,6 @@ returns-in-Some-clause-complete g c = λ w asks built tree doc out fold.
     let same : w ≡ c.in-Some.asked = c.one_meaning.ensures w c.in-Some.asked asks c.in-Some.ensures in
     subst (λ (v : Words). Completes v (g.T.Source.left c.args.tree.now) (g.D.Source.left c.args.doc.now) c.do_asked.result) (sym same)
     (c.do_asked.ensures.complete (λ unbuilt. built (subst IsUnbuilt (sym same) unbuilt)) tree doc out fold)
+
+pub returns-in-None-clause-check : goal.returns-in-None-clause-check
+returns-in-None-clause-check g c = λ place asks. absurd (c.in-None.ensures (Check place) asks)

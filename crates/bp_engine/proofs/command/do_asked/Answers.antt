@@ -6,11 +6,12 @@ use Rattle.bp_tree.specs.Text.{TreeOf}
 use Rattle.bp_engine.specs.declared.design.Asked.{Asked}
 use Rattle.bp_engine.specs.declared.words.Words.{Words}
 use Rattle.bp_engine.specs.Designs.{Designs, Sinks}
-use Rattle.bp_engine.specs.Documents.{IsDrawn}
+use Rattle.bp_engine.specs.Documents.{IsDrawn, IsRewritten}
 use Rattle.bp_engine.specs.Outcomes.{IsAsked}
 use Rattle.bp_engine.specs.declared.status.Status.TheVariants.{Done, NoMemory, ReadFault, WriteFault}
-use Rattle.bp_engine.specs.Run.{Answers, Completes, HasRanges, IsDoneOrGivenUp, UsesFold}
+use Rattle.bp_engine.specs.Run.{Answers, Completes, HasRanges, IsDoneOrGivenUp, ReadingFailed, UsesFold}
 use Rattle.bp_engine.proofs.Asking.{is_asked, no_drawing, uses_fold}
+use Rattle.bp_engine.proofs.Checked.{check_completes, no_tree_handled}
 use Rattle.bp_engine.proofs.Completed.{design_completes, handled_completes, rewrite_completes}
 use Rattle.bp_engine.proofs.command.do_asked.Goals as goal
 
@@ -68,3 +69,28 @@ returns-in-Rewrite-clause-complete g c = λ built tree doc out fold.
     let before = g.D.Source.left c.args.doc.now in
     subst (λ (w : Words). Completes w left before c.rewrite.result) (sym c.in-Rewrite.is) (λ b D some text.
     rewrite_completes before (g.D.Source.left c.rewrite.new.source) b some (g.K.Sink.held c.args.out.now) (g.K.Sink.held c.rewrite.new.out) D text c.rewrite.result c.rewrite.ensures.rewrites (λ is. doc (c.rewrite.ensures.read is)) (λ is. out (c.rewrite.ensures.write is)))
+
+pub returns-in-Check-clause-read : goal.returns-in-Check-clause-read
+returns-in-Check-clause-read g c = λ is.
+    subst (λ (w : Words). ReadingFailed w (g.T.Source.faults c.args.tree.now) (g.T.Source.faults c.check_both.new.tree) (g.D.Source.faults c.args.doc.now) (g.D.Source.faults c.check_both.new.doc)) (sym c.in-Check.is)
+    (elim (c.check_both.ensures.read is) [
+      | inl rose ↦ inl (tt, rose)
+      | inr rose ↦ inr (tt, rose)
+    ])
+
+pub returns-in-Check-clause-complete : goal.returns-in-Check-clause-complete
+returns-in-Check-clause-complete g c = λ built tree doc out fold.
+    let no_read : c.check_both.result ≡ ReadFault → ⊥ = λ is. elim (c.check_both.ensures.read is) [
+      | inl rose ↦ tree rose
+      | inr rose ↦ doc rose
+    ] in
+    let left = g.T.Source.left c.args.tree.now in
+    let before = g.D.Source.left c.args.doc.now in
+    subst (λ (w : Words). Completes w left before c.check_both.result) (sym c.in-Check.is) (λ b d some_tree some_doc.
+    check_completes left (g.T.Source.left c.check_both.new.tree) before (g.D.Source.left c.check_both.new.doc) (g.K.Sink.held c.args.out.now) (g.K.Sink.held c.check_both.new.out) b d some_tree some_doc c.check_both.result c.check_both.ensures.checks no_read (λ is. out (c.check_both.ensures.write is)))
+
+pub returns-in-Contours-clause-unread : goal.returns-in-Contours-clause-unread
+returns-in-Contours-clause-unread g c = λ f is. absurd (no_tree_handled IsDrawn _ _ _ _ c.draw.result f c.draw.ensures.draws is)
+
+pub returns-in-Rewrite-clause-unread : goal.returns-in-Rewrite-clause-unread
+returns-in-Rewrite-clause-unread g c = λ f is. absurd (no_tree_handled IsRewritten _ _ _ _ c.rewrite.result f c.rewrite.ensures.rewrites is)
