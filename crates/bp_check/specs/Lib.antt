@@ -6,3 +6,5 @@ pub mod Found
 pub mod Stack
 pub mod Walk
 pub mod Verdicts
+pub mod Pass
+pub mod Streams
