@@ -65,9 +65,9 @@ module _ (T : TreeValue) (l bytes : List ℕ) (after : Option (List ℕ)) (read 
     read.0 ∙ ap (λ (t : List ℕ). Some t) (nil_from_length (drop (length bytes) l) (omega (arith, length-drop (length bytes) l, same))),
   )
 
-  whole_text : (s : Streamed) → (length bytes ≡ most_read) ⊎ ((length bytes ≤ most_read) × (length l ≡ length bytes)) → ChecksText T bytes s → ChecksText T l s × (after ≡ Some [])
+  whole_text : (s : Streamed) → (length bytes ≡ most_read) ⊎ ((length bytes ≤ most_read) × (length l ≡ length bytes)) → ChecksText T bytes s → (l ≡ bytes) × (after ≡ Some [])
   whole_text s (inl full) checks = absurd (omega (arith, full, checks.text.short))
-  whole_text s (inr all) checks = let whole = all_read all.1 in (subst (λ (b : List ℕ). ChecksText T b s) whole.0 checks, whole.1)
+  whole_text s (inr all) checks = let whole = all_read all.1 in (sym whole.0, whole.1)
 
   first_bytes : (length bytes ≡ most_read) ⊎ ((length bytes ≤ most_read) × (length l ≡ length bytes)) → (bytes ≡ take most_read l) × (after ≡ Some (drop most_read l))
   first_bytes (inl full) = (read.1 ∙ ap (λ (n : ℕ). take n l) full, read.0 ∙ ap (λ (n : ℕ). Some (drop n l)) full)
@@ -81,8 +81,8 @@ module _ (T : TreeValue) (l bytes : List ℕ) (after : Option (List ℕ)) (read 
   refused_text f all refused = let front = first_bytes all in (subst (λ (b : List ℕ). IsRefused b f) front.0 refused, front.1)
 
 pub streams_text : (T : TreeValue) (left after : Option (List ℕ)) (bytes : List ℕ) (s : Streamed) → IsReadTo left after bytes → AnswersText T bytes (Ok s) → Streams T left after (Ok s)
-streams_text T None after bytes s read answers = tt
-streams_text T (Some l) after bytes s read answers = whole_text T l bytes after read.0 s read.1 answers
+streams_text T None after bytes s read answers = (bytes, answers, tt)
+streams_text T (Some l) after bytes s read answers = (bytes, answers, whole_text T l bytes after read.0 s read.1 answers)
 
 pub streams_fault : (T : TreeValue) (left after : Option (List ℕ)) (bytes : List ℕ) (f : DocFault) → IsReadTo left after bytes → AnswersText T bytes (Err f) → Streams T left after (Err (Doc f))
 streams_fault T None after bytes f read answers = tt

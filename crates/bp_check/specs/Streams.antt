@@ -50,9 +50,10 @@ abbrev pub AnswersText : TreeValue → List ℕ → Result Streamed DocFault →
 AnswersText T bytes (Ok s) = ChecksText T bytes s
 AnswersText T bytes (Err f) = IsRefused bytes f
 
--- What is answered to a source, by what was left of it and what is: it is read to its end, or to one byte past the limit.
+-- What is answered to a source, by what was left of it and what is: it is read to its end, or to one byte past the limit. Some bytes were checked,
+-- and where the source tells its bytes they are these.
 abbrev pub Streams : TreeValue → Option (List ℕ) → Option (List ℕ) → Result Streamed CheckFault → Type 0
-Streams T left after (Ok s) = Told left (λ b. ChecksText T b s × (after ≡ Some []))
+Streams T left after (Ok s) = (bytes : List ℕ) × ChecksText T bytes s × Told left (λ b. (b ≡ bytes) × (after ≡ Some []))
 Streams T left after (Err (Doc f)) = Told left (λ b. IsRefused (take most_read b) f × (after ≡ Some (drop most_read b)))
 Streams T left after (Err Read) = Unit {0}
 Streams T left after (Err NoMemory) = Unit {0}

@@ -15,13 +15,13 @@ use Rattle.bp_check.specs.declared.verdict.Verdict.{Verdict}
 use Rattle.bp_check.specs.declared.verdict.Verdict.TheVariants as verdict
 use Rattle.bp_check.specs.Checks.{Checks}
 use Rattle.bp_check.specs.Reasons.{IsFirstReason}
-use Rattle.bp_check.specs.Streams.{Streams}
+use Rattle.bp_check.specs.Streams.{Streams, Told}
 use Rattle.bp_tree.specs.declared.fault.TreeFault.{TreeFault}
 use Rattle.bp_engine.specs.declared.status.Status.{Status}
 use Rattle.bp_engine.specs.declared.status.Status.TheVariants.{Done, TreeRefused, DocRefused, Usage, GaveUp, ReadFault, WriteFault, NoMemory, No, NotBuilt}
-use Rattle.bp_engine.specs.Checking.{AnswersDoc, ChecksAgainst, ChecksBoth, IsAnswerTo, IsChecked, ReadsNoTree, status_of, yes_text}
+use Rattle.bp_engine.specs.Checking.{AnswersDoc, ChecksBoth, IsAnswerTo, IsChecked, ReadsNoTree, status_of, yes_text}
 use Rattle.bp_engine.specs.Designs.{IsRefused, ReadsTree, most_read}
-use Rattle.bp_engine.specs.Documents.{Handles, IsFinal, ReadsNoDoc, Writes}
+use Rattle.bp_engine.specs.Documents.{Handles, IsFinal, ReadsDoc, ReadsNoDoc}
 use Rattle.bp_engine.specs.Reading.{HasRead, IsRead}
 use Rattle.bp_engine.specs.Run.{IsDoneOrNo, IsJudged}
 use Rattle.bp_engine.proofs.Completed.{no_doc_fault, no_tree_fault}
@@ -34,11 +34,14 @@ is_checked T D side bound verdict.Yes status text same_side same_bound is_yes is
 is_checked T D side bound (verdict.No reason) status text same_side same_bound is_yes is_no a =
     subst (λ (s : Status). IsChecked T D s text) (sym a.0) ((is_no reason).0 refl, a.1)
 
+reads_text : (left after : Option (List ℕ)) (bytes : List ℕ) (D : Document) → IsTextOf bytes D → Told left (λ b. (b ≡ bytes) × (after ≡ Some [])) → ReadsDoc left after D
+reads_text None after bytes D text told = tt
+reads_text (Some b) after bytes D text told = (subst (λ (c : List ℕ). IsTextOf c D) (sym told.0) text, told.1)
+
 pub answered : (T : TreeValue) (left after : Option (List ℕ)) (s : Streamed) (status : Status) (text : List ℕ) → Streams T left after (Ok s) → IsAnswerTo s.side s.bound s.verdict status text → AnswersDoc T left after status text
-answered T None after s status text h a = tt
-answered T (Some b) after s status text h a =
-    let c = h.0 in
-    (c.document, c.text, h.1, is_checked T c.document s.side s.bound s.verdict status text c.side c.bound c.yes c.no a)
+answered T left after s status text h a =
+    let c = h.1 in
+    (c.document, reads_text left after h.0 c.document c.text h.2, is_checked T c.document s.side s.bound s.verdict status text c.side c.bound c.yes c.no a)
 
 pub answer_final : (side bound : ℕ) (v : Verdict) (status : Status) (text : List ℕ) → IsAnswerTo side bound v status text → IsFinal status
 answer_final side bound verdict.Yes status text a = subst IsFinal (sym a.0) tt
@@ -65,40 +68,11 @@ reads_tree left after bytes T is has tree =
 pub refuses_tree : (left after : Option (List ℕ)) (bytes : List ℕ) (f : TreeFault) → IsRead most_read left bytes → HasRead left after bytes → IsRefused bytes f → ReadsNoTree left after (TreeRefused f)
 refuses_tree left after bytes f is has r = refused most_read left after bytes (λ (b : List ℕ). IsRefused b f) is has r
 
-module _ (T : TreeValue) (left after held now : Option (List ℕ)) where
-  pub wrote : (status : Status) → Writes (AnswersDoc T left after) held now status → ChecksAgainst T left after held now status
-  wrote Done w = w
-  wrote (TreeRefused f) w = absurd w
-  wrote (DocRefused f) w = absurd w
-  wrote Usage w = absurd w
-  wrote (GaveUp side bound) w = absurd w
-  wrote ReadFault w = absurd w
-  wrote WriteFault w = w
-  wrote NoMemory w = w
-  wrote (No reason) w = w
-  wrote NotBuilt w = absurd w
-
-  pub read_none : (status : Status) → ReadsNoDoc left after status → now ≡ held → ChecksAgainst T left after held now status
-  read_none Done r same = absurd r
-  read_none (TreeRefused f) r same = absurd r
-  read_none (DocRefused f) r same = (r, same)
-  read_none Usage r same = absurd r
-  read_none (GaveUp side bound) r same = absurd r
-  read_none ReadFault r same = same
-  read_none WriteFault r same = absurd r
-  read_none NoMemory r same = same
-  read_none (No reason) r same = absurd r
-  read_none NotBuilt r same = absurd r
-
-  -- these statuses never come once there is a tree
-  pub no_usage : (status : Status) → ChecksAgainst T left after held now status → status ≡ Usage → ⊥
-  no_usage status c is = let h = subst (λ (s : Status). ChecksAgainst T left after held now s) is c in h
-
-  pub no_tree_refused : (status : Status) (f : TreeFault) → ChecksAgainst T left after held now status → status ≡ TreeRefused f → ⊥
-  no_tree_refused status f c is = let h = subst (λ (s : Status). ChecksAgainst T left after held now s) is c in h
-
 pub no_usage_without : (left after : Option (List ℕ)) (status : Status) → ReadsNoTree left after status → status ≡ Usage → ⊥
 no_usage_without left after status r is = let h = subst (λ (s : Status). ReadsNoTree left after s) is r in h
+
+pub no_usage_handled : (A : Document → Status → List ℕ → Type 0) (left after held now : Option (List ℕ)) (status : Status) → Handles A left after held now status → status ≡ Usage → ⊥
+no_usage_handled A left after held now status h is = let r = subst (λ (s : Status). Handles A left after held now s) is h in r
 
 pub no_tree_handled : (A : Document → Status → List ℕ → Type 0) (left after held now : Option (List ℕ)) (status : Status) (f : TreeFault) → Handles A left after held now status → status ≡ TreeRefused f → ⊥
 no_tree_handled A left after held now status f h is = let r = subst (λ (s : Status). Handles A left after held now s) is h in r
@@ -116,7 +90,7 @@ module _ (tree tree_after doc doc_after held now : Option (List ℕ)) where
   refused_tree (No reason) r read = absurd r
   refused_tree NotBuilt r read = absurd r
 
-  judged : (T : TreeValue) (status : Status) → ChecksAgainst T doc doc_after held now status → (status ≡ ReadFault → ⊥) → (status ≡ WriteFault → ⊥) → IsJudged status
+  judged : (T : TreeValue) (status : Status) → Handles (IsChecked T) doc doc_after held now status → (status ≡ ReadFault → ⊥) → (status ≡ WriteFault → ⊥) → IsJudged status
   judged T Done c read write = inl (inl refl)
   judged T (TreeRefused f) c read write = absurd c
   judged T (DocRefused f) c read write = inr (inr (f, refl))
@@ -135,12 +109,12 @@ module _ (tree tree_after doc doc_after held now : Option (List ℕ)) where
   not_tree : (b : List ℕ) → tree ≡ Some b → (T : TreeValue) → TreeOf b T → (status : Status) (f : TreeFault) → ChecksBoth tree tree_after doc doc_after held now status → status ≡ TreeRefused f → ⊥
   not_tree b some T of status f (inl none) is =
       no_tree_fault tree tree_after b some T f of (subst (λ (s : Status). ReadsNoTree tree tree_after s) is none.0)
-  not_tree b some T of status f (inr against) is = no_tree_refused against.0 doc doc_after held now status f against.2 is
+  not_tree b some T of status f (inr against) is = no_tree_handled (IsChecked against.0) doc doc_after held now status f against.2 is
 
   not_doc : (b : List ℕ) → doc ≡ Some b → (D : Document) → IsTextOf b D → (status : Status) (f : DocFault) → ChecksBoth tree tree_after doc doc_after held now status → status ≡ DocRefused f → ⊥
   not_doc b some D text status f (inl none) is = let h = subst (λ (s : Status). ReadsNoTree tree tree_after s) is none.0 in h
   not_doc b some D text status f (inr against) is =
-      let h : ReadsNoDoc doc doc_after (DocRefused f) × (now ≡ held) = subst (λ (s : Status). ChecksAgainst against.0 doc doc_after held now s) is against.2 in
+      let h : ReadsNoDoc doc doc_after (DocRefused f) × (now ≡ held) = subst (λ (s : Status). Handles (IsChecked against.0) doc doc_after held now s) is against.2 in
       no_doc_fault doc doc_after b some D f text h.0
 
   accepted : (status : Status) → IsJudged status → ((f : TreeFault) → status ≡ TreeRefused f → ⊥) → ((f : DocFault) → status ≡ DocRefused f → ⊥) → IsDoneOrNo status
@@ -148,7 +122,7 @@ module _ (tree tree_after doc doc_after held now : Option (List ℕ)) where
   accepted status (inr (inl refuses)) tree_fine doc_fine = absurd (tree_fine refuses.0 refuses.1)
   accepted status (inr (inr refuses)) tree_fine doc_fine = absurd (doc_fine refuses.0 refuses.1)
 
-  pub check_completes : (b c : List ℕ) → tree ≡ Some b → doc ≡ Some c → (status : Status) → ChecksBoth tree tree_after doc doc_after held now status → (status ≡ ReadFault → ⊥) → (status ≡ WriteFault → ⊥) → IsJudged status × ((T : TreeValue) (D : Document) → TreeOf b T → IsTextOf c D → IsDoneOrNo status)
-  check_completes b c some_tree some_doc status h read write =
+  pub check_completes : (status : Status) → ChecksBoth tree tree_after doc doc_after held now status → (status ≡ ReadFault → ⊥) → (status ≡ WriteFault → ⊥) → IsJudged status × ((b c : List ℕ) (T : TreeValue) (D : Document) → tree ≡ Some b → doc ≡ Some c → TreeOf b T → IsTextOf c D → IsDoneOrNo status)
+  check_completes status h read write =
       let all = ends status h read write in
-      (all, λ T D of text. accepted status all (λ f is. not_tree b some_tree T of status f h is) (λ f is. not_doc c some_doc D text status f h is))
+      (all, λ b c T D some_tree some_doc of text. accepted status all (λ f is. not_tree b some_tree T of status f h is) (λ f is. not_doc c some_doc D text status f h is))

@@ -4,7 +4,6 @@ use Rattle.std.specs.declared.option.Option.{Option}
 use Rattle.std.specs.declared.option.Option.TheVariants.{Some}
 use Rattle.bp_base.specs.Tree.{TreeValue}
 use Rattle.bp_document.specs.declared.document.Document.{Document}
-use Rattle.bp_document.specs.Faults.{IsTextOf}
 use Rattle.bp_check.specs.declared.fault.CheckFault.{CheckFault}
 use Rattle.bp_check.specs.declared.fault.CheckFault.TheVariants as fault
 use Rattle.bp_check.specs.declared.verdict.Verdict.{Verdict}
@@ -15,7 +14,7 @@ use Rattle.bp_engine.specs.declared.status.Status.{Status}
 use Rattle.bp_engine.specs.declared.status.Status.TheVariants.{Done, TreeRefused, DocRefused, Usage, GaveUp, ReadFault, WriteFault, NoMemory, No, NotBuilt}
 use Rattle.bp_engine.specs.Reading.{Told}
 use Rattle.bp_engine.specs.Designs.{IsRefused, ReadsTree, most_read}
-use Rattle.bp_engine.specs.Documents.{ReadsNoDoc, Writes, no_text}
+use Rattle.bp_engine.specs.Documents.{Handles, ReadsDoc, no_text}
 
 unfoldable pub yes_text : ℕ → ℕ → List ℕ
 yes_text side bound = codes "yes side " ++ decimal side ++ codes " bound " ++ decimal bound ++ 10 ∷ []
@@ -33,9 +32,9 @@ IsChecked T D NoMemory text = ⊥
 IsChecked T D (No reason) text = IsFirstReason T D reason × (text ≡ no_text reason)
 IsChecked T D NotBuilt text = ⊥
 
--- The source was read to its end, and this answers the document whose text its bytes are, where it tells them.
+-- This answers a document that was read to the end of the source.
 abbrev pub AnswersDoc : TreeValue → Option (List ℕ) → Option (List ℕ) → Status → List ℕ → Type 0
-AnswersDoc T left after status text = Told left (λ b. (D : Document) × IsTextOf b D × (after ≡ Some []) × IsChecked T D status text)
+AnswersDoc T left after status text = (D : Document) × ReadsDoc left after D × IsChecked T D status text
 
 -- Why no tree came of a source: what was left of it before and after. A refused tree is judged by its bytes, read to the end or to one byte
 -- past the limit.
@@ -51,25 +50,12 @@ ReadsNoTree left after NoMemory = Unit {0}
 ReadsNoTree left after (No reason) = ⊥
 ReadsNoTree left after NotBuilt = ⊥
 
--- What `check` has read of the document and written with this status, against the tree T.
-abbrev pub ChecksAgainst : TreeValue → Option (List ℕ) → Option (List ℕ) → Option (List ℕ) → Option (List ℕ) → Status → Type 0
-ChecksAgainst T left after held now Done = Writes (AnswersDoc T left after) held now Done
-ChecksAgainst T left after held now (TreeRefused f) = ⊥
-ChecksAgainst T left after held now (DocRefused f) = ReadsNoDoc left after (DocRefused f) × (now ≡ held)
-ChecksAgainst T left after held now Usage = ⊥
-ChecksAgainst T left after held now (GaveUp side bound) = ⊥
-ChecksAgainst T left after held now ReadFault = now ≡ held
-ChecksAgainst T left after held now WriteFault = Writes (AnswersDoc T left after) held now WriteFault
-ChecksAgainst T left after held now NoMemory = now ≡ held
-ChecksAgainst T left after held now (No reason) = Writes (AnswersDoc T left after) held now (No reason)
-ChecksAgainst T left after held now NotBuilt = ⊥
-
 -- What `check` has read and written: what was left of `tree` and of `doc` before and after, what the sink held before and after. Either no tree
 -- came, or the document was read behind it.
 abbrev pub ChecksBoth : Option (List ℕ) → Option (List ℕ) → Option (List ℕ) → Option (List ℕ) → Option (List ℕ) → Option (List ℕ) → Status → Type 0
 ChecksBoth tree tree_after doc doc_after held now status =
     (ReadsNoTree tree tree_after status × (now ≡ held))
-    ⊎ ((T : TreeValue) × ReadsTree tree tree_after T × ChecksAgainst T doc doc_after held now status)
+    ⊎ ((T : TreeValue) × ReadsTree tree tree_after T × Handles (IsChecked T) doc doc_after held now status)
 
 -- the answer to a verdict on a document of this side and bound
 abbrev pub IsAnswerTo : ℕ → ℕ → Verdict → Status → List ℕ → Type 0

@@ -142,7 +142,7 @@ Completes (Design workers budget replay fold strip steady) tree doc status =
     (b : List ℕ) (T : TreeValue) → tree ≡ Some b → TreeOf b T
     → IsDoneOrGivenUp status × (CoversStated T (sheet_of strip) budget → (status ≡ Done) ⊎ (status ≡ NoMemory))
 Completes (Check place) tree doc status =
-    (b c : List ℕ) → tree ≡ Some b → doc ≡ Some c → IsJudged status × ((T : TreeValue) (D : Document) → TreeOf b T → IsTextOf c D → IsDoneOrNo status)
+    IsJudged status × ((b c : List ℕ) (T : TreeValue) (D : Document) → tree ≡ Some b → doc ≡ Some c → TreeOf b T → IsTextOf c D → IsDoneOrNo status)
 Completes Contours tree doc status = (b : List ℕ) (D : Document) → doc ≡ Some b → IsTextOf b D → IsDoneOrNo status
 Completes (Made leaves seed) tree doc status = Unit {0}
 Completes (Trial leaves seed) tree doc status = Unit {0}

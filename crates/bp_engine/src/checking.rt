@@ -1,11 +1,12 @@
 // `check`: whether a document is a right design of a tree.
 ghost use Rattle.std.specs.Prelude.{◌≡◌, ◌≤◌, ◌⊎◌, IfOk, IfErr};
 ghost use Rattle.bp_base.specs.Causes.{Rose};
+ghost use Rattle.bp_base.specs.Tree.{TreeValue};
 ghost use Rattle.bp_tree.specs.declared.fault.TreeFault.{TreeFault};
 ghost use Rattle.bp_check.specs.declared.verdict.Reason.{Reason as AnyReason};
-ghost use Rattle.bp_engine.specs.Checking.{AnswersDoc, ChecksAgainst, ChecksBoth, IsAnswerTo, ReadsNoTree, status_of, yes_text};
+ghost use Rattle.bp_engine.specs.Checking.{AnswersDoc, ChecksBoth, IsAnswerTo, IsChecked, ReadsNoTree, status_of, yes_text};
 ghost use Rattle.bp_engine.specs.Designs.{ReadsTree};
-ghost use Rattle.bp_engine.specs.Documents.{IsFinal, ReadsNoDoc};
+ghost use Rattle.bp_engine.specs.Documents.{Handles, IsFinal, ReadsNoDoc};
 
 use crate::Status;
 use crate::answering::{Answer, write_answer};
@@ -26,9 +27,10 @@ pub fn check_both<T: Source, D: Source, K: Sink>(
 ) -> Status
     ensures checks { ChecksBoth (T.left tree.old) (T.left tree.new) (D.left doc.old) (D.left doc.new) (K.held out.old) (K.held out.new) result }
     ensures no_usage { result ≡ Status.Usage → ⊥ }
+    ensures order { (doc.new ≡ doc.old) ⊎ ((t : TreeValue) × ReadsTree (T.left tree.old) (T.left tree.new) t) }
     ensures unread { (fault : TreeFault) → result ≡ Status.TreeRefused fault → doc.new ≡ doc.old }
     ensures unwritten { (result ≡ Status.Done → ⊥) → (result ≡ Status.WriteFault → ⊥) → ((r : AnyReason) → result ≡ Status.No r → ⊥) → out.new ≡ out.old }
-    ensures read { result ≡ Status.ReadFault → Rose (T.faults tree.old) (T.faults tree.new) ⊎ Rose (D.faults doc.old) (D.faults doc.new) }
+    ensures read { result ≡ Status.ReadFault → (Rose (T.faults tree.old) (T.faults tree.new) × (doc.new ≡ doc.old)) ⊎ ((t : TreeValue) × ReadsTree (T.left tree.old) (T.left tree.new) t × Rose (D.faults doc.old) (D.faults doc.new)) }
     ensures write { result ≡ Status.WriteFault → Rose (K.faults out.old) (K.faults out.new) }
 {
     match read_given(alloc, tree) {
@@ -54,13 +56,8 @@ fn read_given<T: Source>(alloc: Global, source: &mut T) -> Result<Tree, Status>
     }
 }
 
-fn check_against<D: Source, K: Sink>(
-    alloc: Global,
-    tree: &Tree,
-    doc: &mut D,
-    out: &mut K,
-) -> Status
-    ensures checks { ChecksAgainst tree.now (D.left doc.old) (D.left doc.new) (K.held out.old) (K.held out.new) result }
+fn check_against<D: Source, K: Sink>(alloc: Global, tree: &Tree, doc: &mut D, out: &mut K) -> Status
+    ensures checks { Handles (IsChecked tree.now) (D.left doc.old) (D.left doc.new) (K.held out.old) (K.held out.new) result }
     ensures unwritten { (result ≡ Status.Done → ⊥) → (result ≡ Status.WriteFault → ⊥) → ((r : AnyReason) → result ≡ Status.No r → ⊥) → out.new ≡ out.old }
     ensures read { result ≡ Status.ReadFault → Rose (D.faults doc.old) (D.faults doc.new) }
     ensures write { result ≡ Status.WriteFault → Rose (K.faults out.old) (K.faults out.new) }

@@ -1,11 +1,13 @@
-ghost use Rattle.std.specs.Prelude.{◌≡◌, ◌↔◌, ℕ, IsTrue, map, string_bytes};
+ghost use Rattle.std.specs.Prelude.{◌≡◌, ◌↔◌, ◌⊎◌, ℕ, IsTrue, map, string_bytes};
 ghost use Rattle.bp_base.specs.Causes.{Rose};
 ghost use Rattle.bp_engine.specs.declared.words.Words.{Words};
 ghost use Rattle.std.specs.declared.option.Option.{Option};
 ghost use Rattle.bp_engine.specs.Run.{Answers, Completes, HasRanges, IsUnbuilt, ReadingFailed, Tells, UsesDoc, UsesFold, UsesTree, WritingFailed, asked_of, sheet_of};
 ghost use Rattle.bp_check.specs.declared.verdict.Reason.{Reason};
 ghost use Rattle.bp_tree.specs.declared.fault.TreeFault.{TreeFault};
+ghost use Rattle.bp_base.specs.Tree.{TreeValue};
 ghost use Rattle.bp_engine.specs.Checking.{ChecksBoth};
+ghost use Rattle.bp_engine.specs.Designs.{ReadsTree};
 ghost use Rattle.bp_engine.specs.Documents.{Draws, Rewrites};
 ghost use Rattle.bp_engine.specs.Texts.{text_of};
 ghost use Rattle.bp_engine.specs.Words.{IsWords};
@@ -50,6 +52,10 @@ pub fn run<R: Threads + Sync, T: Source, D: Source, K: Sink, F: Sink, E: Sink, G
     ensures tree { (w : Words) → IsWords (map string_bytes words.now) w → (UsesTree w → ⊥) → tree.new ≡ tree.old }
     ensures doc { (w : Words) → IsWords (map string_bytes words.now) w → (UsesDoc w → ⊥) → doc.new ≡ doc.old }
     ensures unread { (fault : TreeFault) → result ≡ Status.TreeRefused fault → doc.new ≡ doc.old }
+
+    // `check` touches the document only once the tree was read to its end.
+    ensures order { (place : ℕ) → IsWords (map string_bytes words.now) (Words.Check place) → (doc.new ≡ doc.old) ⊎ ((t : TreeValue) × ReadsTree (T.left tree.old) (T.left tree.new) t) }
+    ensures read_in_order { (place : ℕ) → IsWords (map string_bytes words.now) (Words.Check place) → result ≡ Status.ReadFault → (Rose (T.faults tree.old) (T.faults tree.new) × (doc.new ≡ doc.old)) ⊎ ((t : TreeValue) × ReadsTree (T.left tree.old) (T.left tree.new) t × Rose (D.faults doc.old) (D.faults doc.new)) }
     ensures fold { (w : Words) → IsWords (map string_bytes words.now) w → (UsesFold w → ⊥) → fold.new ≡ fold.old }
 
     ensures told { Tells (E.held err.old) (E.held err.new) (E.faults err.old) (E.faults err.new) (text_of result) }
@@ -91,6 +97,8 @@ fn answer<T: Source, D: Source, K: Sink, F: Sink>(
     ensures tree { (w : Words) → IsWords (map string_bytes words.now) w → (UsesTree w → ⊥) → tree.new ≡ tree.old }
     ensures doc { (w : Words) → IsWords (map string_bytes words.now) w → (UsesDoc w → ⊥) → doc.new ≡ doc.old }
     ensures unread { (fault : TreeFault) → result ≡ Status.TreeRefused fault → doc.new ≡ doc.old }
+    ensures order { (place : ℕ) → IsWords (map string_bytes words.now) (Words.Check place) → (doc.new ≡ doc.old) ⊎ ((t : TreeValue) × ReadsTree (T.left tree.old) (T.left tree.new) t) }
+    ensures read_in_order { (place : ℕ) → IsWords (map string_bytes words.now) (Words.Check place) → result ≡ Status.ReadFault → (Rose (T.faults tree.old) (T.faults tree.new) × (doc.new ≡ doc.old)) ⊎ ((t : TreeValue) × ReadsTree (T.left tree.old) (T.left tree.new) t × Rose (D.faults doc.old) (D.faults doc.new)) }
     ensures fold { (w : Words) → IsWords (map string_bytes words.now) w → (UsesFold w → ⊥) → fold.new ≡ fold.old }
     ensures unwritten { (result ≡ Status.Done → ⊥) → ((side bound : ℕ) → result ≡ Status.GaveUp side bound → ⊥) → (result ≡ Status.WriteFault → ⊥) → ((r : Reason) → result ≡ Status.No r → ⊥) → (out.new ≡ out.old) × (fold.new ≡ fold.old) }
     ensures read { (w : Words) → IsWords (map string_bytes words.now) w → result ≡ Status.ReadFault → ReadingFailed w (T.faults tree.old) (T.faults tree.new) (D.faults doc.old) (D.faults doc.new) }
@@ -123,6 +131,8 @@ fn do_asked<T: Source, D: Source, K: Sink, F: Sink>(
     ensures tree { (UsesTree words → ⊥) → tree.new ≡ tree.old }
     ensures doc { (UsesDoc words → ⊥) → doc.new ≡ doc.old }
     ensures unread { (fault : TreeFault) → result ≡ Status.TreeRefused fault → doc.new ≡ doc.old }
+    ensures order { (place : ℕ) → words ≡ Words.Check place → (doc.new ≡ doc.old) ⊎ ((t : TreeValue) × ReadsTree (T.left tree.old) (T.left tree.new) t) }
+    ensures read_in_order { (place : ℕ) → words ≡ Words.Check place → result ≡ Status.ReadFault → (Rose (T.faults tree.old) (T.faults tree.new) × (doc.new ≡ doc.old)) ⊎ ((t : TreeValue) × ReadsTree (T.left tree.old) (T.left tree.new) t × Rose (D.faults doc.old) (D.faults doc.new)) }
     ensures fold { (UsesFold words → ⊥) → fold.new ≡ fold.old }
     ensures unwritten { (result ≡ Status.Done → ⊥) → ((side bound : ℕ) → result ≡ Status.GaveUp side bound → ⊥) → (result ≡ Status.WriteFault → ⊥) → ((r : Reason) → result ≡ Status.No r → ⊥) → (out.new ≡ out.old) × (fold.new ≡ fold.old) }
     ensures read { result ≡ Status.ReadFault → ReadingFailed words (T.faults tree.old) (T.faults tree.new) (D.faults doc.old) (D.faults doc.new) }

@@ -1,3 +1,4 @@
+mod checks;
 mod documents;
 mod drawings;
 mod searches;
@@ -320,7 +321,6 @@ fn refusals(rt: HostRuntime) -> Result<(), Fail> {
             "",
             "not built\n",
         ),
-        ("check --tree f", "", 8, "", "not built\n"),
         ("contours", "", 1, "", "document: line 1: Cut\n"),
         ("rewrite", "", 1, "", "document: line 1: Cut\n"),
         ("pieces", "", 8, "", "not built\n"),

@@ -64,3 +64,17 @@ returns-in-Some-clause-complete g c = λ w asks built tree doc out fold.
 
 pub returns-in-None-clause-check : goal.returns-in-None-clause-check
 returns-in-None-clause-check g c = λ place asks. absurd (c.in-None.ensures (Check place) asks)
+
+pub returns-in-Some-clause-order : goal.returns-in-Some-clause-order
+returns-in-Some-clause-order g c = λ place asks.
+    c.do_asked.ensures.order place (sym (c.one_meaning.ensures (Check place) c.in-Some.asked asks c.in-Some.ensures))
+
+pub returns-in-Some-clause-read_in_order : goal.returns-in-Some-clause-read_in_order
+returns-in-Some-clause-read_in_order g c = λ place asks.
+    c.do_asked.ensures.read_in_order place (sym (c.one_meaning.ensures (Check place) c.in-Some.asked asks c.in-Some.ensures))
+
+pub returns-in-None-clause-order : goal.returns-in-None-clause-order
+returns-in-None-clause-order g c = λ place asks. absurd (c.in-None.ensures (Check place) asks)
+
+pub returns-in-None-clause-read_in_order : goal.returns-in-None-clause-read_in_order
+returns-in-None-clause-read_in_order g c = λ place asks. absurd (c.in-None.ensures (Check place) asks)

@@ -74,20 +74,20 @@ pub returns-in-Check-clause-read : goal.returns-in-Check-clause-read
 returns-in-Check-clause-read g c = λ is.
     subst (λ (w : Words). ReadingFailed w (g.T.Source.faults c.args.tree.now) (g.T.Source.faults c.check_both.new.tree) (g.D.Source.faults c.args.doc.now) (g.D.Source.faults c.check_both.new.doc)) (sym c.in-Check.is)
     (elim (c.check_both.ensures.read is) [
-      | inl rose ↦ inl (tt, rose)
-      | inr rose ↦ inr (tt, rose)
+      | inl rose ↦ inl (tt, rose.0)
+      | inr rose ↦ inr (tt, rose.2)
     ])
 
 pub returns-in-Check-clause-complete : goal.returns-in-Check-clause-complete
 returns-in-Check-clause-complete g c = λ built tree doc out fold.
     let no_read : c.check_both.result ≡ ReadFault → ⊥ = λ is. elim (c.check_both.ensures.read is) [
-      | inl rose ↦ tree rose
-      | inr rose ↦ doc rose
+      | inl rose ↦ tree rose.0
+      | inr rose ↦ doc rose.2
     ] in
     let left = g.T.Source.left c.args.tree.now in
     let before = g.D.Source.left c.args.doc.now in
-    subst (λ (w : Words). Completes w left before c.check_both.result) (sym c.in-Check.is) (λ b d some_tree some_doc.
-    check_completes left (g.T.Source.left c.check_both.new.tree) before (g.D.Source.left c.check_both.new.doc) (g.K.Sink.held c.args.out.now) (g.K.Sink.held c.check_both.new.out) b d some_tree some_doc c.check_both.result c.check_both.ensures.checks no_read (λ is. out (c.check_both.ensures.write is)))
+    subst (λ (w : Words). Completes w left before c.check_both.result) (sym c.in-Check.is)
+    (check_completes left (g.T.Source.left c.check_both.new.tree) before (g.D.Source.left c.check_both.new.doc) (g.K.Sink.held c.args.out.now) (g.K.Sink.held c.check_both.new.out) c.check_both.result c.check_both.ensures.checks no_read (λ is. out (c.check_both.ensures.write is)))
 
 pub returns-in-Contours-clause-unread : goal.returns-in-Contours-clause-unread
 returns-in-Contours-clause-unread g c = λ f is. absurd (no_tree_handled IsDrawn _ _ _ _ c.draw.result f c.draw.ensures.draws is)
