@@ -1,5 +1,5 @@
 -- A document that was read, and the text that answers it.
-use Rattle.std.proofs.Common.{◌≡◌, ◌⊎◌, inl, inr, ℕ, ◌≤◌, List, sym, subst, arith}
+use Rattle.std.proofs.Common.{◌≡◌, ◌⊎◌, inl, inr, ℕ, List, sym, subst, arith}
 use Rattle.std.specs.declared.option.Option.{Option}
 use Rattle.bp_document.specs.declared.document.Document.{Document}
 use Rattle.bp_document.specs.declared.fault.DocFault.{DocFault}
@@ -8,7 +8,7 @@ use Rattle.bp_check.specs.declared.verdict.Reason.{Reason}
 use Rattle.bp_engine.specs.declared.status.Status.{Status}
 use Rattle.bp_engine.specs.declared.status.Status.TheVariants.{Done, TreeRefused, DocRefused, Usage, GaveUp, ReadFault, WriteFault, NoMemory, No, NotBuilt}
 use Rattle.bp_base.specs.Causes.{Appends}
-use Rattle.bp_engine.specs.Reading.{HasRead, IsRead, Told}
+use Rattle.bp_engine.specs.Reading.{HasRead, IsRead}
 use Rattle.bp_engine.specs.Documents.{Handles, IsDrawn, IsFinal, IsRefusedDoc, ReadsDoc, ReadsNoDoc, Writes, WritesText, most_doc_read}
 use Rattle.bp_engine.proofs.Reported.{read_whole, refused}
 

@@ -1,8 +1,8 @@
 -- What the words of `design` ask of it.
-use Rattle.std.proofs.Common.{◌≡◌, ◌⊎◌, inl, inr, ℕ, ◌≤◌, List, true, false, refl, arith}
+use Rattle.std.proofs.Common.{◌≡◌, inl, inr, ℕ, ◌≤◌, List, true, false, refl, arith}
 use Rattle.std.specs.declared.option.Option.{Option}
 use Rattle.std.specs.declared.option.Option.TheVariants.{None, Some}
-use Rattle.std.proofs.lemmas.Bool.{false≢true, true≢false}
+use Rattle.std.proofs.lemmas.Bool.{false≢true}
 use Rattle.bp_base.specs.declared.point.Sheet.TheVariants.{Square}
 use Rattle.bp_base.specs.Limits.{most_budget, most_width}
 use Rattle.bp_metric.specs.Metric.{IsSheet}
@@ -10,7 +10,7 @@ use Rattle.bp_engine.specs.declared.words.Words.{Words}
 use Rattle.bp_engine.specs.declared.words.Words.TheVariants.{Design, Check, Contours, Made, Trial, Rewrite, Revise, Pieces}
 use Rattle.bp_engine.specs.Outcomes.{IsAsked}
 use Rattle.bp_engine.specs.Run.{HasRanges, IsDrawable, UsesFold, asked_of, draws_of, sheet_of}
-use Rattle.bp_engine.specs.Words.{AreTogether, AsksDesign, HasDefault, HasOptional, IsWords, usual_budget}
+use Rattle.bp_engine.specs.Words.{AreTogether, HasDefault, HasOptional, IsWords, usual_budget}
 
 sheet_range : (name : List ℕ) (words : List (List ℕ)) (strip : Option ℕ) → HasOptional name 0 most_width words strip → IsSheet (sheet_of strip)
 sheet_range name words None h = tt

@@ -1,7 +1,7 @@
 -- Where nothing failed, inputs in their grammars are answered.
-use Rattle.std.proofs.Common.{◌≡◌, ◌⊎◌, inl, inr, ℕ, ◌≤◌, List, take, drop, refl, sym, ap, subst, arith}
+use Rattle.std.proofs.Common.{◌≡◌, ◌⊎◌, inl, inr, ℕ, List, take, drop, refl, sym, ap, subst, arith}
 use Rattle.std.specs.declared.option.Option.{Option}
-use Rattle.std.specs.declared.option.Option.TheVariants.{None, Some}
+use Rattle.std.specs.declared.option.Option.TheVariants.{Some}
 use Rattle.std.proofs.lemmas.List.{take_all}
 use Rattle.bp_base.specs.Tree.{TreeValue}
 use Rattle.bp_tree.specs.declared.fault.TreeFault.{TreeFault}
@@ -10,7 +10,6 @@ use Rattle.bp_metric.specs.Stated.{CoversStated}
 use Rattle.bp_tree.specs.Text.{TreeOf}
 use Rattle.bp_document.specs.declared.document.Document.{Document}
 use Rattle.bp_document.specs.Faults.{IsTextOf}
-use Rattle.bp_check.specs.declared.verdict.Reason.{Reason}
 use Rattle.bp_engine.specs.declared.design.Asked.{Asked}
 use Rattle.bp_engine.specs.declared.status.Status.{Status}
 use Rattle.bp_engine.specs.declared.status.Status.TheVariants.{Done, TreeRefused, DocRefused, Usage, GaveUp, ReadFault, WriteFault, NoMemory, No, NotBuilt}

@@ -1,8 +1,8 @@
 -- From a document that is found to what is written of it.
-use Rattle.std.proofs.Common.{◌≡◌, ◌⊎◌, inl, inr, ℕ, ◌+◌, ◌<◌, ◌≤◌, Bool, true, false, List, [], ◌∷◌, length, filter, map, All, Option, None, Some, MatchOption, IsFalse, refl, sym, ap, ◌∙◌, cond, subst, arith}
+use Rattle.std.proofs.Common.{◌≡◌, ◌⊎◌, inl, inr, ℕ, ◌<◌, ◌≤◌, Bool, true, false, List, [], ◌∷◌, length, filter, map, All, Option, None, Some, MatchOption, IsFalse, refl, sym, ap, ◌∙◌, cond, subst, arith}
 use Rattle.std.specs.List.{AllByRecursion}
 use Rattle.std.proofs.lemmas.Bool.{cases_lt, true≢false}
-use Rattle.std.proofs.lemmas.List.Elements.{All-map, recursion_from_All}
+use Rattle.std.proofs.lemmas.List.Elements.{recursion_from_All}
 use Rattle.bp_base.specs.declared.point.Sheet.{Sheet}
 use Rattle.bp_base.specs.declared.point.Sheet.TheVariants.{Square}
 use Rattle.bp_base.specs.declared.path.Step.{Step}
@@ -17,7 +17,7 @@ use Rattle.bp_metric.specs.Opening.{side_of}
 use Rattle.bp_metric.specs.Valid.{NoneBelow, Valid}
 use Rattle.bp_document.specs.declared.document.Document.{Document}
 use Rattle.bp_document.specs.Text.{doc_text}
-use Rattle.bp_check.specs.Written.{CountsFrom, HasWrittenProof, IsWrittenNode, IsWrittenPart, IsWrittenProof, IsWritten, bound_of, is_open, examined_count, open_count}
+use Rattle.bp_check.specs.Written.{CountsFrom, HasWrittenProof, IsWrittenNode, IsWrittenPart, IsWrittenProof, IsWritten, is_open, examined_count, open_count}
 use Rattle.bp_engine.specs.declared.design.Asked.{Asked}
 use Rattle.bp_engine.specs.declared.status.Status.{Status}
 use Rattle.bp_engine.specs.declared.status.Status.TheVariants.{Done, TreeRefused, DocRefused, Usage, GaveUp, ReadFault, WriteFault, NoMemory, No, NotBuilt}

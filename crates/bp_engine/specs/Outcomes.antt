@@ -1,5 +1,5 @@
 -- How a document that is found is written: all of it, a front of it or nothing, and the status that then comes.
-use Rattle.std.specs.Prelude.{◌≡◌, ℕ, ◌<◌, ◌≤◌, true}
+use Rattle.std.specs.Prelude.{◌≡◌, ◌<◌, ◌≤◌, true}
 use Rattle.bp_base.specs.declared.point.Sheet.TheVariants.{Square}
 use Rattle.bp_base.specs.Limits.{most_budget}
 use Rattle.bp_metric.specs.Metric.{IsSheet}

@@ -60,20 +60,18 @@ const STRIP: &str =
 
 #[test]
 fn strip_is_searched(rt: HostRuntime) -> Result<(), Fail> {
-    let alloc = rt.alloc();
-    let line = "design --strip 4 --budget 200000";
-    let left = leave(&rt, alloc, line, STAR.as_bytes(), b"", NONE)?;
-    assert_eq!(rt; left.number, 0);
-    assert_eq!(rt; left.out.as_slice(), STRIP.as_bytes());
-    assert!(rt; is_right(alloc, STAR.as_bytes(), &left.out)?);
-    Ok(())
+    let one = "design --strip 4 --budget 200000 --workers 1";
+    let four = "design --strip 4 --budget 200000 --workers 4";
+    let rows = [(one, STAR, 0, STRIP, ""), (four, STAR, 0, STRIP, "")];
+    check(&rt, rt.alloc(), &rows)
 }
 
 #[test]
-fn star_is_right(rt: HostRuntime) -> Result<(), Fail> {
+fn documents_are_right(rt: HostRuntime) -> Result<(), Fail> {
     let alloc = rt.alloc();
     assert!(rt; is_right(alloc, STAR.as_bytes(), WHOLE.as_bytes())?);
     assert!(rt; is_right(alloc, STAR.as_bytes(), SPENT.as_bytes())?);
+    assert!(rt; is_right(alloc, STAR.as_bytes(), STRIP.as_bytes())?);
     Ok(())
 }
 

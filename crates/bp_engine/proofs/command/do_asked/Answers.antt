@@ -1,8 +1,5 @@
-use Rattle.std.proofs.Common.{◌≡◌, ◌⊎◌, inl, inr, List, ℕ, sym, ap, ◌∙◌, subst}
-use Rattle.bp_base.specs.Causes.{Rose}
-use Rattle.bp_base.specs.Tree.{TreeValue}
+use Rattle.std.proofs.Common.{◌≡◌, ◌⊎◌, inl, inr, sym, ap, ◌∙◌, subst}
 use Rattle.bp_metric.specs.Stated.{CoversStated}
-use Rattle.bp_tree.specs.Text.{TreeOf}
 use Rattle.bp_engine.specs.declared.design.Asked.{Asked}
 use Rattle.bp_engine.specs.declared.words.Words.{Words}
 use Rattle.bp_engine.specs.Designs.{Designs, Sinks}

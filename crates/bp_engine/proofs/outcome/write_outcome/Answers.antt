@@ -1,5 +1,4 @@
-use Rattle.std.proofs.Common.{◌≡◌, inl, inr, sym, ◌∙◌}
-use Rattle.bp_engine.proofs.Outcomes.{of_two, written}
+use Rattle.bp_engine.proofs.Outcomes.{written}
 use Rattle.bp_engine.proofs.outcome.write_outcome.Goals as goal
 
 pub returns-in-Ok-clause-writes : goal.returns-in-Ok-clause-writes
