@@ -1,25 +1,36 @@
--- One more byte of a line of which the first 513 bytes are held.
-use Rattle.std.proofs.Common.{◌≡◌, ℕ, ◌+◌, ◌<◌, ◌≤◌, List, [], ◌∷◌, ◌++◌, length, take, set, sym, ap, ◌∙◌, arith}
-use Rattle.std.proofs.lemmas.List.{take_all, take-append-le, take_more_set, length-take, length_push, length-take-le}
+-- More bytes of a line of which the first 513 are held.
+use Rattle.std.proofs.Common.{◌≡◌, ℕ, ◌+◌, ◌-◌, ◌≤◌, inl, inr, min, List, ◌++◌, length, take, sym, ap, ◌∙◌, arith}
+use Rattle.std.proofs.lemmas.Bool.{cases_lt}
+use Rattle.std.proofs.lemmas.List.{take_all, take-append-le, length-take, length-take-le, append-nil}
+use Rattle.std.proofs.lemmas.Slice.{take-put_mid}
+use Rattle.std.proofs.Math.Seq.{take-append-add}
+use borrow.Rule.Slice.PartMut.{put_mid}
 
-module _ (held line : List ℕ) (byte : ℕ) (is : held ≡ take 513 line) where
-  pub more_held : length held < 513 → held ++ byte ∷ [] ≡ take 513 (line ++ byte ∷ [])
-  more_held room =
-      let short : length line < 513 = omega (arith, room, ap length is, length-take 513 line) in
+take_min : (m : ℕ) (part : List ℕ) → take (min (length part) m) part ≡ take m part
+take_min m part = elim (cases_lt m (length part)) [
+  | inl less ↦ ap (λ (n : ℕ). take n part) (omega (arith, less))
+  | inr all ↦ take_all (min (length part) m) part (omega (arith, all)) ∙ sym (take_all m part all)
+]
+
+-- the bytes that are held, and as many more as there is room for
+held_more : (held line part : List ℕ) → held ≡ take 513 line → held ++ take (min (length part) (513 - length held)) part ≡ take 513 (line ++ part)
+held_more held line part is = elim (cases_lt (length line) 513) [
+  | inr long ↦
+      let full : length held ≡ 513 = omega (arith, long, ap length is, length-take 513 line) in
+      let none : min (length part) (513 - length held) ≡ 0 = omega (arith, full) in
+      ap (λ (n : ℕ). held ++ take n part) none ∙ append-nil held ∙ is ∙ sym (take-append-le 513 line part long)
+  | inl short ↦
       let whole : held ≡ line = is ∙ take_all 513 line (omega (arith, short)) in
-      ap (λ (l : List ℕ). l ++ byte ∷ []) whole ∙ sym (take_all 513 (line ++ byte ∷ []) (omega (arith, short, length_push line byte)))
+      let room : length line + (513 - length line) ≡ 513 = omega (arith, short) in
+      ap (λ (l : List ℕ). l ++ take (min (length part) (513 - length l)) part) whole ∙ ap (λ (l : List ℕ). line ++ l) (take_min (513 - length line) part)
+      ∙ sym (take-append-add line part (513 - length line)) ∙ ap (λ (n : ℕ). take n (line ++ part)) room
+]
 
-  pub held_full : 513 ≤ length held → held ≡ take 513 (line ++ byte ∷ [])
-  held_full full =
-      let long : 513 ≤ length line = omega (arith, full, ap length is, length-take 513 line) in
-      is ∙ sym (take-append-le 513 line (byte ∷ []) long)
-
-pub held_more : (held line bytes : List ℕ) (byte len : ℕ) → held ≡ take len bytes → length bytes ≡ 513 → len < 513 → held ≡ take 513 line → take (len + 1) (set bytes len byte) ≡ take 513 (line ++ byte ∷ [])
-held_more held line bytes byte len view all room is =
-    let long : length held ≡ len = ap length view ∙ length-take-le len bytes (omega (arith, all, room)) in
-    take_more_set bytes len byte (omega (arith, all, room)) ∙ ap (λ (l : List ℕ). l ++ byte ∷ []) (sym view) ∙ more_held held line byte is (omega (arith, long, room))
-
-pub held_same : (held line bytes : List ℕ) (byte len : ℕ) → held ≡ take len bytes → length bytes ≡ 513 → len ≤ 513 → 513 ≤ len → held ≡ take 513 line → held ≡ take 513 (line ++ byte ∷ [])
-held_same held line bytes byte len view all within full is =
+-- as the code has it: a part of the bytes is written
+pub held_after : (held line part bytes new : List ℕ) (len count k : ℕ) → held ≡ take len bytes → len ≤ 513 → length bytes ≡ 513 → count ≡ min (length part) (513 - len) → new ≡ take count part → held ≡ take 513 line → take (len + count) (put_mid len k bytes new) ≡ take 513 (line ++ part)
+held_after held line part bytes new len count k view within all few written is =
     let long : length held ≡ len = ap length view ∙ length-take-le len bytes (omega (arith, all, within)) in
-    held_full held line byte is (omega (arith, long, full))
+    let more : length new ≡ count = ap length written ∙ length-take-le count part (omega (arith, few)) in
+    let same : count ≡ min (length part) (513 - length held) = omega (arith, few, long) in
+    take-put_mid len k bytes new (len + count) (omega (arith, more)) (omega (arith, all, within)) ∙ ap (λ (l : List ℕ). l ++ new) (sym view) ∙ ap (λ (l : List ℕ). held ++ l) (written ∙ ap (λ (n : ℕ). take n part) same)
+    ∙ held_more held line part is

@@ -10,4 +10,8 @@ pub mod Reasoning
 pub mod Right
 pub mod Deciding
 pub mod Taking
+pub mod Sheets
+pub mod Passing
+pub mod Ending
+pub mod Sources
 pub mod HeldLines

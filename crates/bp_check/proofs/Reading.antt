@@ -25,34 +25,34 @@ use Rattle.bp_check.specs.declared.stack.OpenSplit.{OpenSplit}
 use Rattle.bp_check.specs.declared.stack.Stack.{Stack}
 use Rattle.bp_check.specs.Tests.{may_split}
 use Rattle.bp_check.specs.Found.{joined, found_claim, judged, found_of}
-use Rattle.bp_check.specs.Lines.{lines_at, lines_of}
+use Rattle.bp_document.specs.Told.{node_list_at, node_list}
 use Rattle.bp_check.specs.Stack.{step_of, path_of, stack_of, empty_stack, found_count, closed, entered, splits_entered, with_child, opened, is_wrong, with_split, joined_claim, with_claim, fed, run}
 use Rattle.bp_check.proofs.Joined.{joined_none, none_joined, joined_comm, joined_assoc, split_stays, IsFrom, joined_from, from_less, judged_from, found_from, found_append, IsBefore, joined_before, before_more, sound_first, wrong_second, found_before}
 use Rattle.bp_check.proofs.Kept.{cases_bool, eqb-is, eqb-not, child_last, child_length, closed_closed, closed_done, closed_last, split_opened, split_not}
 
 -- the lines of a child, from this depth on
 abbrev pub lines_from : ℕ → Refutation → List NodeLine
-lines_from depth r = lines_of r depth
+lines_from depth r = node_list r depth
 
-flat-map : (rs : List Refutation) (depth : ℕ) → flat_map (λ (lines : ℕ → List NodeLine). lines depth) (map lines_of rs) ≡ flat_map (lines_from depth) rs
+flat-map : (rs : List Refutation) (depth : ℕ) → flat_map (λ (lines : ℕ → List NodeLine). lines depth) (map node_list rs) ≡ flat_map (lines_from depth) rs
 flat-map [] depth = refl
-flat-map (r ∷ rs) depth = λ i. lines_of r depth ++ flat-map rs depth i
+flat-map (r ∷ rs) depth = λ i. node_list r depth ++ flat-map rs depth i
 
-pub lines-split : (p : Pair) (rs : List Refutation) (depth : ℕ) → lines_of (Split p rs) depth ≡ (record { depth = depth; kind = kind.Split p }) ∷ flat_map (lines_from (depth + 1)) rs
-unfolding lines_of
+pub lines-split : (p : Pair) (rs : List Refutation) (depth : ℕ) → node_list (Split p rs) depth ≡ (record { depth = depth; kind = kind.Split p }) ∷ flat_map (lines_from (depth + 1)) rs
+unfolding node_list
 lines-split p rs depth =
-    ap (λ r. lines_of r depth) (sym (rolls-Split p rs)) ∙ (λ i. fold-roll-Refutation (ℕ → List NodeLine) lines_at (Refutation-F.Split p rs) i depth)
+    ap (λ r. node_list r depth) (sym (rolls-Split p rs)) ∙ (λ i. fold-roll-Refutation (ℕ → List NodeLine) node_list_at (Refutation-F.Split p rs) i depth)
     ∙ ap (λ (t : List NodeLine). (record { depth = depth; kind = kind.Split p }) ∷ t) (flat-map rs (depth + 1))
 
-pub lines-closed : (claim : Claim) (depth : ℕ) → lines_of (Closed claim) depth ≡ (record { depth = depth; kind = kind.Closed claim }) ∷ []
-unfolding lines_of
+pub lines-closed : (claim : Claim) (depth : ℕ) → node_list (Closed claim) depth ≡ (record { depth = depth; kind = kind.Closed claim }) ∷ []
+unfolding node_list
 lines-closed claim depth =
-    ap (λ r. lines_of r depth) (sym (rolls-Closed claim)) ∙ (λ i. fold-roll-Refutation (ℕ → List NodeLine) lines_at (Refutation-F.Closed claim) i depth)
+    ap (λ r. node_list r depth) (sym (rolls-Closed claim)) ∙ (λ i. fold-roll-Refutation (ℕ → List NodeLine) node_list_at (Refutation-F.Closed claim) i depth)
 
-pub lines-open : (claim : Claim) (depth : ℕ) → lines_of (Open claim) depth ≡ (record { depth = depth; kind = kind.Open claim }) ∷ []
-unfolding lines_of
+pub lines-open : (claim : Claim) (depth : ℕ) → node_list (Open claim) depth ≡ (record { depth = depth; kind = kind.Open claim }) ∷ []
+unfolding node_list
 lines-open claim depth =
-    ap (λ r. lines_of r depth) (sym (rolls-Open claim)) ∙ (λ i. fold-roll-Refutation (ℕ → List NodeLine) lines_at (Refutation-F.Open claim) i depth)
+    ap (λ r. node_list r depth) (sym (rolls-Open claim)) ∙ (λ i. fold-roll-Refutation (ℕ → List NodeLine) node_list_at (Refutation-F.Open claim) i depth)
 
 next_child : (path : List Step) (p : Pair) (cs : List Choice) (k : ℕ) (n : List Step → List Node) (ns : List (List Step → List Node)) → child_nodes path p (drop k cs) (n ∷ ns) ≡ n (extended path p (get_or cs k Left)) ++ child_nodes path p (drop (suc k) cs) ns
 next_child path p [] zero n ns = refl
@@ -103,7 +103,7 @@ module _ (T : TreeValue) (G : Sheet) where
     leads : is_wrong S.found ≡ false → (length S.splits ≡ depth) × (path_of T G (splits_entered depth S.splits) ≡ path)
 
   abbrev IsRead : Refutation → Type 0
-  IsRead r = (S : Stack) (depth : ℕ) (path : List Step) → IsReady (closed T G depth S) depth path → closed T G depth (run T G S (lines_of r depth)) ≡ after depth (closed T G depth S) (nodes_from r path)
+  IsRead r = (S : Stack) (depth : ℕ) (path : List Step) → IsReady (closed T G depth S) depth path → closed T G depth (run T G S (node_list r depth)) ≡ after depth (closed T G depth S) (nodes_from r path)
 
   entered_long : (splits : List OpenSplit) (depth : ℕ) → length (splits_entered depth splits) ≡ length splits
   entered_long splits depth = elim (length splits == depth) as (λ b. length (cond b (with_child splits) splits) ≡ length splits) [ true ↦ child_length splits | false ↦ refl ]
@@ -179,7 +179,7 @@ module _ (T : TreeValue) (G : Sheet) where
         let first = nodes_from r.0 here in
         let rest = below (k + 1) rs in
         let more = flat_map (lines_from (depth + 1)) (known rs) in
-        let N = run T G S (lines_of r.0 (depth + 1)) in
+        let N = run T G S (node_list r.0 (depth + 1)) in
         let ready : IsReady (stack_of T G (over k) count found) (depth + 1) here = record {
           before = before;
           few = few k;
@@ -194,7 +194,7 @@ module _ (T : TreeValue) (G : Sheet) where
         let same_found : joined now (found_of T G (count + length first) rest) ≡ joined found (found_of T G count (below k (r ∷ rs))) = joined_assoc found (found_of T G count first) (found_of T G (count + length first) rest) ∙ ap (joined found) (sym (found_append T G count (count + length first) first rest refl) ∙ ap (found_of T G count) (sym nodes)) in
         let same_count : count + length first + length rest ≡ count + length (below k (r ∷ rs)) = omega (arith, ap length nodes, length-append first rest) in
         let same_splits : over (k + 1 + length rs) ≡ over (k + length (r ∷ rs)) = ap over (omega arith) in
-        ap (closed T G (depth + 1)) (run_append S (lines_of r.0 (depth + 1)) more) ∙ all ∙ (λ i. stack_of T G (same_splits i) (same_count i) (same_found i))
+        ap (closed T G (depth + 1)) (run_append S (node_list r.0 (depth + 1)) more) ∙ all ∙ (λ i. stack_of T G (same_splits i) (same_count i) (same_found i))
 
   entered_same : (splits : List OpenSplit) (depth : ℕ) → length splits ≡ depth → splits_entered depth splits ≡ with_child splits
   entered_same splits depth is = ap (λ (b : Bool). cond b (with_child splits) splits) (eqb-is (length splits) depth is)
@@ -322,7 +322,7 @@ module _ (T : TreeValue) (G : Sheet) where
   each_read = ind-Refutation IsRead node_read
 
   -- what the stack finds of all lines is what is found of the nodes
-  pub whole_read : (r : Refutation) → (closed T G 0 (run T G empty_stack (lines_of r 0))).found ≡ found_of T G 0 (nodes_of T G r)
+  pub whole_read : (r : Refutation) → (closed T G 0 (run T G empty_stack (node_list r 0))).found ≡ found_of T G 0 (nodes_of T G r)
   whole_read r =
       let start : closed T G 0 empty_stack ≡ empty_stack = closed_done T G empty_stack 0 refl (omega arith) in
       let ready : IsReady empty_stack 0 [] = record { before = tt; few = omega arith; leads = λ sound. (refl, refl) } in

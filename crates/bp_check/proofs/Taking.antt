@@ -15,7 +15,7 @@ use Rattle.bp_check.specs.declared.found.Found.TheVariants.{WrongSplit}
 use Rattle.bp_check.specs.declared.stack.Stack.{Stack}
 use Rattle.bp_check.specs.Tests.{may_split}
 use Rattle.bp_check.specs.Found.{joined, found_of}
-use Rattle.bp_check.specs.Lines.{lines_of}
+use Rattle.bp_document.specs.Told.{node_list}
 use Rattle.bp_check.specs.Stack.{stack_of, empty_stack, opened, is_wrong, closed, entered, with_split, with_claim, with_node, fed, run, IsKept, HasTaken}
 use Rattle.bp_check.specs.Verdicts.{IsFoundOf}
 use Rattle.bp_check.proofs.Judging.{found_is}
@@ -62,7 +62,7 @@ module _ (T : TreeValue) (G : Sheet) where
   pub takes_none : (S : Stack) → S ≡ empty_stack → HasTaken T G S []
   takes_none S is = record { is = is; kept = subst (IsKept T G) (sym is) empty_kept; count = ap (λ (M : Stack). M.count) is }
 
-  pub finds : (S : Stack) (f : Found) → f ≡ (closed T G 0 S).found → (r : Refutation) → HasTaken T G S (lines_of r 0) → IsFoundOf T G (Some r) f
+  pub finds : (S : Stack) (f : Found) → f ≡ (closed T G 0 S).found → (r : Refutation) → HasTaken T G S (node_list r 0) → IsFoundOf T G (Some r) f
   finds S f is r taken =
       let found : f ≡ found_of T G 0 (nodes_of T G r) = is ∙ ap (λ (M : Stack). (closed T G 0 M).found) taken.is ∙ whole_read T G r in
       subst (IsFoundOf T G (Some r)) (sym found) (found_is T G (Some r))

@@ -3,7 +3,8 @@ pub mod Reasons
 pub mod Written
 pub mod Tests
 pub mod Found
-pub mod Lines
 pub mod Stack
 pub mod Walk
 pub mod Verdicts
+pub mod Pass
+pub mod Streams

@@ -1,5 +1,5 @@
 // The line of a document that is being read, as far as it is held.
-ghost use Rattle.std.specs.Prelude.{◌≡◌, ◌++◌, ◌∷◌, [], List, ℕ, take};
+ghost use Rattle.std.specs.Prelude.{◌≡◌, ◌++◌, [], List, ℕ, take};
 
 use std::marker::Model;
 
@@ -34,14 +34,14 @@ impl HeldLine {
         }
     }
 
-    /// The next byte of the line, which is held where there is room.
-    pub fn push(&mut self, byte: u8)
-        ensures { (line : List ℕ) → self.old ≡ take 513 line → self.new ≡ take 513 (line ++ byte ∷ []) }
+    /// The next bytes of the line, which are held where there is room.
+    pub fn extend(&mut self, part: &[u8])
+        ensures { (line : List ℕ) → self.old ≡ take 513 line → self.new ≡ take 513 (line ++ part.now) }
     {
-        if self.len < MOST_HELD {
-            self.bytes[self.len] = byte;
-            self.len += 1;
-        }
+        let count = part.len().min(MOST_HELD - self.len);
+        let end = self.len + count;
+        self.bytes[self.len..end].copy_from_slice(&part[..count]);
+        self.len = end;
     }
 
     pub fn clear(&mut self)

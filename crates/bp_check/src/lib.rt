@@ -6,13 +6,16 @@ mod fault;
 mod found;
 mod held;
 mod laws;
+mod pass;
 mod stack;
+mod streaming;
 mod verdict;
 mod walk;
 
 pub use checking::check;
 pub use fault::{CheckFault, Streamed};
 pub use laws::{checks_without_reason, has_reason, law_of_checks, one_reason};
+pub use streaming::check_source;
 pub use verdict::{Reason, Verdict};
 
 #[cfg(test)]

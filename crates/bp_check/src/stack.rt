@@ -9,7 +9,7 @@ ghost use Rattle.bp_metric.specs.Nodes.{counted};
 ghost use Rattle.bp_document.specs.declared.node_line.NodeKind.TheVariants.{Closed as ClosedKind, Split as SplitKind};
 ghost use Rattle.bp_check.specs.Found.{chain_of, counted_on, found_claim};
 ghost use Rattle.bp_check.specs.Stack.{HasTaken, IsKept, KeepsWithin, closed, empty_stack, entered, fed, found_count, is_wrong, joined_claim, opened, stack_of, step_of, with_child, with_claim, with_split};
-ghost use Rattle.bp_check.specs.Lines.{lines_of};
+ghost use Rattle.bp_document.specs.Told.{node_list};
 ghost use Rattle.bp_check.specs.Verdicts.{IsFoundOf};
 ghost use Rattle.bp_check.specs.Tests.{may_split, stands_on};
 
@@ -98,7 +98,7 @@ impl Stack {
     pub fn finish(&mut self, metric: &Metric) -> Found
         requires kept { IsKept metric.now.tree metric.now.sheet self.old }
         ensures closed { result ≡ (closed metric.now.tree metric.now.sheet 0 self.old).found }
-        ensures proof { (r : AnyRefutation) → HasTaken metric.now.tree metric.now.sheet self.old (lines_of r 0) → IsFoundOf metric.now.tree metric.now.sheet (Some r) result }
+        ensures proof { (r : AnyRefutation) → HasTaken metric.now.tree metric.now.sheet self.old (node_list r 0) → IsFoundOf metric.now.tree metric.now.sheet (Some r) result }
         ensures none { HasTaken metric.now.tree metric.now.sheet self.old [] → IsFoundOf metric.now.tree metric.now.sheet None result }
     {
         self.close(metric, 0);

@@ -3,6 +3,8 @@ ghost use Rattle.std.specs.Prelude.{◌≡◌, ◌≤◌, IsTrue, IfOk};
 ghost use Rattle.bp_metric.specs.Metric.{IsSheet};
 ghost use Rattle.bp_metric.specs.Samples.{is_sample, letters};
 
+mod streams;
+
 use crate::found::Found;
 use crate::held::HeldLine;
 use crate::stack::Stack;
@@ -475,12 +477,10 @@ fn line_by_line(rt: HostRuntime) -> Result<(), Fail> {
 #[test]
 fn long_lines(rt: HostRuntime) -> Result<(), Fail> {
     let mut line = HeldLine::empty();
-    for _ in 0..600 {
-        line.push(120);
-    }
+    line.extend(&[120; 600]);
     assert_eq!(rt; line.as_slice().len(), 513);
     line.clear();
-    line.push(49);
+    line.extend(b"1");
     assert_eq!(rt; line.as_slice(), b"1".as_slice());
     let faults = [
         (

@@ -2,7 +2,7 @@
 ghost use Rattle.std.specs.Prelude.{◌≡◌, ◌<◌, ◌+◌, ◌*◌, ◌++◌, ◌∷◌, [], length, IfOk, OnOk};
 ghost use Rattle.bp_metric.specs.Nodes.{nodes_of};
 ghost use Rattle.bp_check.specs.Found.{found_of};
-ghost use Rattle.bp_check.specs.Lines.{lines_of};
+ghost use Rattle.bp_document.specs.Told.{node_list};
 ghost use Rattle.bp_check.specs.Stack.{IsKept, run};
 ghost use Rattle.bp_check.specs.Walk.{lines_left, size_left};
 
@@ -58,9 +58,9 @@ fn visit<'a>(
     node: &'a Refutation,
 ) -> Result<(), NoMemory>
     requires kept { IsKept metric.now.tree metric.now.sheet stack.old }
-    ensures lines { OnOk result (run metric.now.tree metric.now.sheet stack.new (lines_left levels.new.items) ≡ run metric.now.tree metric.now.sheet stack.old (lines_of node.now (length levels.old.items) ++ lines_left levels.old.items)) }
+    ensures lines { OnOk result (run metric.now.tree metric.now.sheet stack.new (lines_left levels.new.items) ≡ run metric.now.tree metric.now.sheet stack.old (node_list node.now (length levels.old.items) ++ lines_left levels.old.items)) }
     ensures kept { OnOk result (IsKept metric.now.tree metric.now.sheet stack.new) }
-    ensures less { OnOk result (size_left levels.new.items < size_left levels.old.items + 2 * length (lines_of node.now (length levels.old.items))) }
+    ensures less { OnOk result (size_left levels.new.items < size_left levels.old.items + 2 * length (node_list node.now (length levels.old.items))) }
 {
     // no memory holds so many nodes
     if stack.count == u64::MAX {

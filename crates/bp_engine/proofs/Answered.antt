@@ -1,14 +1,14 @@
 -- A document that was read, and the text that answers it.
-use Rattle.std.proofs.Common.{◌≡◌, ◌⊎◌, inl, inr, ℕ, ◌≤◌, List, sym, subst, arith}
+use Rattle.std.proofs.Common.{◌≡◌, ◌⊎◌, inl, inr, ℕ, List, sym, subst, arith}
 use Rattle.std.specs.declared.option.Option.{Option}
 use Rattle.bp_document.specs.declared.document.Document.{Document}
 use Rattle.bp_document.specs.declared.fault.DocFault.{DocFault}
 use Rattle.bp_document.specs.Faults.{IsTextOf}
 use Rattle.bp_check.specs.declared.verdict.Reason.{Reason}
 use Rattle.bp_engine.specs.declared.status.Status.{Status}
-use Rattle.bp_engine.specs.declared.status.Status.TheVariants.{Done, TreeRefused, DocRefused, Usage, ReadFault, WriteFault, NoMemory, No, NotBuilt}
+use Rattle.bp_engine.specs.declared.status.Status.TheVariants.{Done, TreeRefused, DocRefused, Usage, GaveUp, ReadFault, WriteFault, NoMemory, No, NotBuilt}
 use Rattle.bp_base.specs.Causes.{Appends}
-use Rattle.bp_engine.specs.Reading.{HasRead, IsRead, Told}
+use Rattle.bp_engine.specs.Reading.{HasRead, IsRead}
 use Rattle.bp_engine.specs.Documents.{Handles, IsDrawn, IsFinal, IsRefusedDoc, ReadsDoc, ReadsNoDoc, Writes, WritesText, most_doc_read}
 use Rattle.bp_engine.proofs.Reported.{read_whole, refused}
 
@@ -26,6 +26,7 @@ all_written A held now Done text final a h = (text, a, h)
 all_written A held now (TreeRefused fault) text final a h = absurd final
 all_written A held now (DocRefused fault) text final a h = absurd final
 all_written A held now Usage text final a h = absurd final
+all_written A held now (GaveUp side bound) text final a h = absurd final
 all_written A held now ReadFault text final a h = absurd final
 all_written A held now WriteFault text final a h = absurd final
 all_written A held now NoMemory text final a h = absurd final
@@ -43,6 +44,7 @@ no_other Done result final (inl is) done fault other = done is
 no_other (TreeRefused f) result final (inl is) done fault other = final
 no_other (DocRefused f) result final (inl is) done fault other = final
 no_other Usage result final (inl is) done fault other = final
+no_other (GaveUp side bound) result final (inl is) done fault other = final
 no_other ReadFault result final (inl is) done fault other = final
 no_other WriteFault result final (inl is) done fault other = final
 no_other NoMemory result final (inl is) done fault other = final
@@ -65,6 +67,7 @@ module _ (A : Document → Status → List ℕ → Type 0) (left after held now 
   handled D (TreeRefused fault) r w = absurd w
   handled D (DocRefused fault) r w = absurd w
   handled D Usage r w = absurd w
+  handled D (GaveUp side bound) r w = absurd w
   handled D ReadFault r w = absurd w
   handled D WriteFault r w = (D, r, w)
   handled D NoMemory r w = w
@@ -76,6 +79,7 @@ module _ (A : Document → Status → List ℕ → Type 0) (left after held now 
   unhandled (TreeRefused fault) r same = absurd r
   unhandled (DocRefused fault) r same = (r, same)
   unhandled Usage r same = absurd r
+  unhandled (GaveUp side bound) r same = absurd r
   unhandled ReadFault r same = same
   unhandled WriteFault r same = absurd r
   unhandled NoMemory r same = same
@@ -87,6 +91,7 @@ drawn_final D Done text d = tt
 drawn_final D (TreeRefused fault) text d = absurd d
 drawn_final D (DocRefused fault) text d = absurd d
 drawn_final D Usage text d = absurd d
+drawn_final D (GaveUp side bound) text d = absurd d
 drawn_final D ReadFault text d = absurd d
 drawn_final D WriteFault text d = absurd d
 drawn_final D NoMemory text d = absurd d

@@ -12,3 +12,7 @@ mod NodeParts
 mod FoundNodes
 mod Covered
 mod Searches
+mod Outcomes
+mod Completed
+mod Asking
+mod Checked

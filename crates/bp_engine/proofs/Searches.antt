@@ -58,7 +58,7 @@ least_from n None w first second = second
 least_from n (Some v) None first second = first
 least_from n (Some v) (Some w) first second = omega (arith, first, second)
 
-all_from : {X : Type 0} (n : ℕ) (f : X → Option ℕ) (xs : List X) → AllByRecursion (λ x. CountsFrom n (f x)) xs → CountsFrom n (least_of (map f xs))
+pub all_from : {X : Type 0} (n : ℕ) (f : X → Option ℕ) (xs : List X) → AllByRecursion (λ x. CountsFrom n (f x)) xs → CountsFrom n (least_of (map f xs))
 all_from n f [] all = tt
 all_from n f (x ∷ xs) all = least_from n (f x) (least_of (map f xs)) all.0 (all_from n f xs all.1)
 
@@ -66,7 +66,7 @@ bound_small : (side floor : ℕ) (w : Option ℕ) → bound_of side floor w ≤ 
 bound_small side floor None = omega arith
 bound_small side floor (Some w) = omega arith
 
-bound_whole : (side floor : ℕ) (w : Option ℕ) → CountsFrom side w → bound_of side floor w ≡ side
+pub bound_whole : (side floor : ℕ) (w : Option ℕ) → CountsFrom side w → bound_of side floor w ≡ side
 bound_whole side floor None from = refl
 bound_whole side floor (Some w) from = omega (arith, from)
 

@@ -20,7 +20,7 @@ use Rattle.bp_check.specs.Reasons.{IsFirstReason}
 use Rattle.bp_regions.specs.Cells.{Reach}
 use Rattle.bp_regions.specs.Contours.{AreContours}
 use Rattle.bp_engine.specs.declared.status.Status.{Status}
-use Rattle.bp_engine.specs.declared.status.Status.TheVariants.{Done, TreeRefused, DocRefused, Usage, ReadFault, WriteFault, NoMemory, No, NotBuilt}
+use Rattle.bp_engine.specs.declared.status.Status.TheVariants.{Done, TreeRefused, DocRefused, Usage, GaveUp, ReadFault, WriteFault, NoMemory, No, NotBuilt}
 use Rattle.bp_engine.specs.Reading.{Told}
 
 -- as many bytes as are read of a document: one more than it may have
@@ -44,6 +44,7 @@ ReadsNoDoc left after (TreeRefused fault) = ⊥
 ReadsNoDoc left after (DocRefused fault) =
     Told left (λ b. IsRefusedDoc (take most_doc_read b) fault × (after ≡ Some (drop most_doc_read b)))
 ReadsNoDoc left after Usage = ⊥
+ReadsNoDoc left after (GaveUp side bound) = ⊥
 ReadsNoDoc left after ReadFault = Unit {0}
 ReadsNoDoc left after WriteFault = ⊥
 ReadsNoDoc left after NoMemory = Unit {0}
@@ -56,6 +57,7 @@ IsFinal Done = Unit {0}
 IsFinal (TreeRefused fault) = ⊥
 IsFinal (DocRefused fault) = ⊥
 IsFinal Usage = ⊥
+IsFinal (GaveUp side bound) = ⊥
 IsFinal ReadFault = ⊥
 IsFinal WriteFault = ⊥
 IsFinal NoMemory = ⊥
@@ -74,6 +76,7 @@ Writes Answers held now Done = (text : List ℕ) × Answers Done text × Appends
 Writes Answers held now (TreeRefused fault) = ⊥
 Writes Answers held now (DocRefused fault) = ⊥
 Writes Answers held now Usage = ⊥
+Writes Answers held now (GaveUp side bound) = ⊥
 Writes Answers held now ReadFault = ⊥
 Writes Answers held now WriteFault = (status : Status) × (text : List ℕ) × Answers status text × AppendsFront held now text
 Writes Answers held now NoMemory = now ≡ held
@@ -86,6 +89,7 @@ Handles Answers left after held now Done = (D : Document) × ReadsDoc left after
 Handles Answers left after held now (TreeRefused fault) = ⊥
 Handles Answers left after held now (DocRefused fault) = ReadsNoDoc left after (DocRefused fault) × (now ≡ held)
 Handles Answers left after held now Usage = ⊥
+Handles Answers left after held now (GaveUp side bound) = ⊥
 Handles Answers left after held now ReadFault = now ≡ held
 Handles Answers left after held now WriteFault = (D : Document) × ReadsDoc left after D × Writes (Answers D) held now WriteFault
 Handles Answers left after held now NoMemory = now ≡ held
@@ -155,6 +159,7 @@ IsDrawn D Done text = (D.sheet ≡ Square) × Checks D.tree D × IsContourText D
 IsDrawn D (TreeRefused fault) text = ⊥
 IsDrawn D (DocRefused fault) text = ⊥
 IsDrawn D Usage text = ⊥
+IsDrawn D (GaveUp side bound) text = ⊥
 IsDrawn D ReadFault text = ⊥
 IsDrawn D WriteFault text = ⊥
 IsDrawn D NoMemory text = ⊥

@@ -1,6 +1,9 @@
 pub mod Words
 pub mod Reading
 pub mod Texts
+pub mod Designs
+pub mod Outcomes
 pub mod Run
 pub mod Documents
+pub mod Checking
 pub mod Searched

@@ -1,26 +1,24 @@
 -- What a run answers, and what it leaves.
-use Rattle.std.specs.Prelude.{◌≡◌, ◌⊎◌, ℕ, ◌+◌, ◌<◌, List, [], take, drop, false}
+use Rattle.std.specs.Prelude.{◌≡◌, ◌⊎◌, ℕ, ◌≤◌, List, Bool, true, false}
 use Rattle.std.specs.declared.option.Option.{Option}
 use Rattle.std.specs.declared.option.Option.TheVariants.{None, Some}
 use Rattle.bp_base.specs.declared.point.Sheet.{Sheet}
 use Rattle.bp_base.specs.declared.point.Sheet.TheVariants.{Square, Strip}
 use Rattle.bp_base.specs.Causes.{Rose, Appends, AppendsFront}
-use Rattle.bp_base.specs.Limits.{most_tree_bytes}
+use Rattle.bp_base.specs.Limits.{most_budget}
 use Rattle.bp_base.specs.Tree.{TreeValue}
 use Rattle.bp_tree.specs.declared.fault.TreeFault.{TreeFault}
 use Rattle.bp_tree.specs.Text.{TreeOf}
-use Rattle.bp_tree.specs.Faults.{IsTreeFault}
 use Rattle.bp_metric.specs.Metric.{IsSheet}
-use Rattle.bp_metric.specs.Valid.{NoneBelow}
-use Rattle.bp_metric.specs.Opening.{IsOpeningSide}
-use Rattle.bp_metric.specs.Floor.{IsFloorSide}
+use Rattle.bp_metric.specs.Stated.{CoversStated}
 use Rattle.bp_document.specs.declared.document.Document.{Document}
-use Rattle.bp_document.specs.Ranges.{IsDocument}
-use Rattle.bp_document.specs.Text.{doc_text}
-use Rattle.bp_check.specs.Written.{IsWritten, IsWanted}
+use Rattle.bp_document.specs.declared.fault.DocFault.{DocFault}
+use Rattle.bp_document.specs.Faults.{IsTextOf}
+use Rattle.bp_check.specs.declared.verdict.Reason.{Reason}
+use Rattle.bp_engine.specs.declared.design.Asked.{Asked}
 use Rattle.bp_engine.specs.declared.status.Status.{Status}
-use Rattle.bp_engine.specs.declared.status.Status.TheVariants.{Done, TreeRefused, DocRefused, Usage, ReadFault, WriteFault, NoMemory, No, NotBuilt}
-use Rattle.bp_engine.specs.Reading.{Told}
+use Rattle.bp_engine.specs.declared.status.Status.TheVariants.{Done, GaveUp, NoMemory, No}
+use Rattle.bp_engine.specs.Designs.{Designs, Sinks}
 use Rattle.bp_engine.specs.declared.words.Words.{Words}
 use Rattle.bp_engine.specs.declared.words.Words.TheVariants.{Design, Check, Contours, Made, Trial, Rewrite, Revise, Pieces}
 
@@ -29,86 +27,20 @@ abbrev pub sheet_of : Option ℕ → Sheet
 sheet_of None = Square
 sheet_of (Some width) = Strip width
 
--- the sides U0 of the opening and L0 of the floor
-pub record AreSides (T : TreeValue) (G : Sheet) (opening floor : ℕ) : Type 0 where
-  pub is_opening : IsOpeningSide T G opening
-  pub is_floor : IsFloorSide T G floor
+-- a drawing is asked for by `--fold`
+abbrev pub draws_of : Option ℕ → Bool
+draws_of None = false
+draws_of (Some place) = true
 
--- the opening meets the floor, so nothing is searched
-abbrev pub NeedsNoSearch : TreeValue → Sheet → Type 0
-NeedsNoSearch T G = (side : ℕ) × AreSides T G side side
+abbrev pub asked_of : ℕ → Option ℕ → Option ℕ → Asked
+asked_of budget fold strip = record { sheet = sheet_of strip; budget = budget; draws = draws_of fold }
 
--- the opening's side is greater than the floor's
-abbrev pub NeedsSearch : TreeValue → Sheet → Type 0
-NeedsSearch T G = (opening floor : ℕ) × AreSides T G opening floor × (floor < opening)
-
--- D is written for T on this sheet with this budget, and no sheet is smaller
-pub record IsDesign (T : TreeValue) (G : Sheet) (B : ℕ) (D : Document) : Type 0 where
-  pub sheet : D.sheet ≡ G
-  pub ranges : IsDocument D
-  pub written : IsWritten T B false D
-  pub bound : D.bound ≡ D.side
-  pub none_below : NoneBelow T G D.side
-  pub wanted : IsWanted T G D.side
-  pub no_search : NeedsNoSearch T G
-
--- what was written for a tree with this status: what the sink held before and after
-abbrev pub WritesDesign : TreeValue → Sheet → ℕ → Option (List ℕ) → Option (List ℕ) → Status → Type 0
-WritesDesign T G B held now Done = (D : Document) × IsDesign T G B D × Appends held now (doc_text D)
-WritesDesign T G B held now (TreeRefused fault) = ⊥
-WritesDesign T G B held now (DocRefused fault) = ⊥
-WritesDesign T G B held now Usage = ⊥
-WritesDesign T G B held now ReadFault = ⊥
-WritesDesign T G B held now WriteFault = (D : Document) × IsDesign T G B D × AppendsFront held now (doc_text D)
-WritesDesign T G B held now NoMemory = now ≡ held
-WritesDesign T G B held now (No reason) = ⊥
-WritesDesign T G B held now NotBuilt = NeedsSearch T G × (now ≡ held)
-
--- the bytes are no tree, and this is their first fault
-pub record IsRefused (bytes : List ℕ) (fault : TreeFault) : Type 0 where
-  pub is_fault : IsTreeFault bytes fault
-  pub no_tree : (T : TreeValue) → TreeOf bytes T → ⊥
-
--- what was written for the bytes of a tree
-abbrev pub DesignsBytes : List ℕ → Sheet → ℕ → Option (List ℕ) → Option (List ℕ) → Status → Type 0
-DesignsBytes bytes G B held now Done = (T : TreeValue) × TreeOf bytes T × WritesDesign T G B held now Done
-DesignsBytes bytes G B held now (TreeRefused fault) = IsRefused bytes fault × (now ≡ held)
-DesignsBytes bytes G B held now (DocRefused fault) = ⊥
-DesignsBytes bytes G B held now Usage = ⊥
-DesignsBytes bytes G B held now ReadFault = ⊥
-DesignsBytes bytes G B held now WriteFault = (T : TreeValue) × TreeOf bytes T × WritesDesign T G B held now WriteFault
-DesignsBytes bytes G B held now NoMemory = now ≡ held
-DesignsBytes bytes G B held now (No reason) = ⊥
-DesignsBytes bytes G B held now NotBuilt = (T : TreeValue) × TreeOf bytes T × WritesDesign T G B held now NotBuilt
-
--- as many bytes as are read of a tree: one more than it may have
-abbrev pub most_read : ℕ
-most_read = most_tree_bytes + 1
-
--- The source was read to its end, and its bytes are a text of T, where it tells them.
-abbrev pub ReadsTree : Option (List ℕ) → Option (List ℕ) → TreeValue → Type 0
-ReadsTree left after T = Told left (λ b. TreeOf b T × (after ≡ Some []))
-
--- What `design` has read and written with this status: what was left of the source before and after, what the sink held before and after.
--- A refused tree is judged by its bytes, read to the end or to one byte past the limit.
-abbrev pub Designs : Sheet → ℕ → Option (List ℕ) → Option (List ℕ) → Option (List ℕ) → Option (List ℕ) → Status → Type 0
-Designs G B left after held now Done = (T : TreeValue) × ReadsTree left after T × WritesDesign T G B held now Done
-Designs G B left after held now (TreeRefused fault) =
-    Told left (λ b. IsRefused (take most_read b) fault × (after ≡ Some (drop most_read b))) × (now ≡ held)
-Designs G B left after held now (DocRefused fault) = ⊥
-Designs G B left after held now Usage = ⊥
-Designs G B left after held now ReadFault = now ≡ held
-Designs G B left after held now WriteFault = (T : TreeValue) × ReadsTree left after T × WritesDesign T G B held now WriteFault
-Designs G B left after held now NoMemory = now ≡ held
-Designs G B left after held now (No reason) = ⊥
-Designs G B left after held now NotBuilt = (T : TreeValue) × ReadsTree left after T × WritesDesign T G B held now NotBuilt
-
--- what isn't built yet of what the words ask for: every command but `design`, `contours` and `rewrite`, and of `design` drawings and the steady answer
+-- what isn't built yet of what the words ask for: `made`, `trial`, `revise` and `pieces`, and of `design` replays and the steady answer
 abbrev pub IsUnbuilt : Words → Type 0
-IsUnbuilt (Design workers budget replay None strip None) = ⊥
-IsUnbuilt (Design workers budget replay (Some place) strip steady) = Unit {0}
-IsUnbuilt (Design workers budget replay None strip (Some questions)) = Unit {0}
-IsUnbuilt (Check tree) = Unit {0}
+IsUnbuilt (Design workers budget None fold strip None) = ⊥
+IsUnbuilt (Design workers budget (Some seed) fold strip steady) = Unit {0}
+IsUnbuilt (Design workers budget None fold strip (Some questions)) = Unit {0}
+IsUnbuilt (Check tree) = ⊥
 IsUnbuilt Contours = ⊥
 IsUnbuilt (Made leaves seed) = Unit {0}
 IsUnbuilt (Trial leaves seed) = Unit {0}
@@ -122,8 +54,8 @@ pub record Tells (before after : Option (List ℕ)) (faults now : ℕ) (text : L
   pub all : (Rose faults now → ⊥) → Appends before after text
 
 -- what `design` with these words has read and written
-abbrev pub Answers : Words → Option (List ℕ) → Option (List ℕ) → Option (List ℕ) → Option (List ℕ) → Status → Type 0
-Answers (Design workers budget replay fold strip steady) left after held now status = Designs (sheet_of strip) budget left after held now status
+abbrev pub Answers : Words → Option (List ℕ) → Option (List ℕ) → Sinks → Sinks → Status → Type 0
+Answers (Design workers budget replay fold strip steady) left after held now status = Designs (asked_of budget fold strip) left after held now status
 Answers (Check tree) left after held now status = Unit {0}
 Answers Contours left after held now status = Unit {0}
 Answers (Made leaves seed) left after held now status = Unit {0}
@@ -132,16 +64,22 @@ Answers Rewrite left after held now status = Unit {0}
 Answers (Revise tree budget) left after held now status = Unit {0}
 Answers Pieces left after held now status = Unit {0}
 
--- a strip's width is within its limit
-abbrev pub HasSheet : Words → Type 0
-HasSheet (Design workers budget replay fold strip steady) = IsSheet (sheet_of strip)
-HasSheet (Check tree) = Unit {0}
-HasSheet Contours = Unit {0}
-HasSheet (Made leaves seed) = Unit {0}
-HasSheet (Trial leaves seed) = Unit {0}
-HasSheet Rewrite = Unit {0}
-HasSheet (Revise tree budget) = Unit {0}
-HasSheet Pieces = Unit {0}
+-- a drawing is asked for of a square alone
+abbrev pub IsDrawable : Option ℕ → Option ℕ → Type 0
+IsDrawable None strip = Unit {0}
+IsDrawable (Some place) None = Unit {0}
+IsDrawable (Some place) (Some width) = ⊥
+
+-- a strip's width and a budget are within their limits
+abbrev pub HasRanges : Words → Type 0
+HasRanges (Design workers budget replay fold strip steady) = IsSheet (sheet_of strip) × (budget ≤ most_budget) × IsDrawable fold strip
+HasRanges (Check tree) = Unit {0}
+HasRanges Contours = Unit {0}
+HasRanges (Made leaves seed) = Unit {0}
+HasRanges (Trial leaves seed) = Unit {0}
+HasRanges Rewrite = Unit {0}
+HasRanges (Revise tree budget) = Unit {0}
+HasRanges Pieces = Unit {0}
 
 -- the command reads a tree from the source `tree`
 abbrev pub UsesTree : Words → Type 0
@@ -168,3 +106,46 @@ UsesDoc Pieces = Unit {0}
 -- The count of a source that the command reads rose: the counts of `tree` before and after, and those of `doc`.
 abbrev pub ReadingFailed : Words → ℕ → ℕ → ℕ → ℕ → Type 0
 ReadingFailed w tree tree' doc doc' = (UsesTree w × Rose tree tree') ⊎ (UsesDoc w × Rose doc doc')
+
+-- the command writes a drawing on the sink `fold`
+abbrev pub UsesFold : Words → Type 0
+UsesFold (Design workers budget replay None strip steady) = ⊥
+UsesFold (Design workers budget replay (Some place) strip steady) = Unit {0}
+UsesFold (Check tree) = ⊥
+UsesFold Contours = ⊥
+UsesFold (Made leaves seed) = ⊥
+UsesFold (Trial leaves seed) = ⊥
+UsesFold Rewrite = ⊥
+UsesFold (Revise tree budget) = ⊥
+UsesFold Pieces = ⊥
+
+-- The count of a sink that the command writes rose: the counts of `out` before and after, and those of `fold`.
+abbrev pub WritingFailed : Words → ℕ → ℕ → ℕ → ℕ → Type 0
+WritingFailed w out out' fold fold' = Rose out out' ⊎ (UsesFold w × Rose fold fold')
+
+-- the status is Done, No or want of memory
+abbrev pub IsDoneOrNo : Status → Type 0
+IsDoneOrNo status = (status ≡ Done) ⊎ (((reason : Reason) × (status ≡ No reason)) ⊎ (status ≡ NoMemory))
+
+-- the status is one of these, or the tree or the document is refused
+abbrev pub IsJudged : Status → Type 0
+IsJudged status = IsDoneOrNo status ⊎ (((f : TreeFault) × (status ≡ TreeRefused f)) ⊎ ((f : DocFault) × (status ≡ DocRefused f)))
+
+-- the status is Done or want of memory, or the search was given up
+abbrev pub IsDoneOrGivenUp : Status → Type 0
+IsDoneOrGivenUp status = (status ≡ Done) ⊎ (((side bound : ℕ) × (status ≡ GaveUp side bound)) ⊎ (status ≡ NoMemory))
+
+-- Which statuses come where the command's inputs are in their grammars and no count rose: what was left of `tree` and of `doc`. A budget that
+-- covers the stated tree is never given up.
+abbrev pub Completes : Words → Option (List ℕ) → Option (List ℕ) → Status → Type 0
+Completes (Design workers budget replay fold strip steady) tree doc status =
+    (b : List ℕ) (T : TreeValue) → tree ≡ Some b → TreeOf b T
+    → IsDoneOrGivenUp status × (CoversStated T (sheet_of strip) budget → (status ≡ Done) ⊎ (status ≡ NoMemory))
+Completes (Check place) tree doc status =
+    IsJudged status × ((b c : List ℕ) (T : TreeValue) (D : Document) → tree ≡ Some b → doc ≡ Some c → TreeOf b T → IsTextOf c D → IsDoneOrNo status)
+Completes Contours tree doc status = (b : List ℕ) (D : Document) → doc ≡ Some b → IsTextOf b D → IsDoneOrNo status
+Completes (Made leaves seed) tree doc status = Unit {0}
+Completes (Trial leaves seed) tree doc status = Unit {0}
+Completes Rewrite tree doc status = (b : List ℕ) (D : Document) → doc ≡ Some b → IsTextOf b D → (status ≡ Done) ⊎ (status ≡ NoMemory)
+Completes (Revise tree_place budget) tree doc status = Unit {0}
+Completes Pieces tree doc status = Unit {0}

@@ -5,7 +5,7 @@ use Rattle.bp_tree.specs.declared.fault.TreeKind.TheVariants.{TooLong, BadJson, 
 use Rattle.bp_document.specs.declared.fault.DocKind.{DocKind}
 use Rattle.bp_document.specs.declared.fault.DocKind.TheVariants as doc
 use Rattle.bp_engine.specs.declared.status.Status.{Status}
-use Rattle.bp_engine.specs.declared.status.Status.TheVariants.{Done, TreeRefused, DocRefused, Usage, ReadFault, WriteFault, NoMemory, No, NotBuilt}
+use Rattle.bp_engine.specs.declared.status.Status.TheVariants.{Done, TreeRefused, DocRefused, Usage, GaveUp, ReadFault, WriteFault, NoMemory, No, NotBuilt}
 
 abbrev pub kind_text : TreeKind → List ℕ
 kind_text TooLong = codes "TooLong"
@@ -37,6 +37,7 @@ text_of Done = []
 text_of (TreeRefused fault) = codes "tree: line " ++ decimal fault.line ++ codes ": " ++ kind_text fault.kind ++ 10 ∷ []
 text_of (DocRefused fault) = codes "document: line " ++ decimal fault.line ++ codes ": " ++ doc_kind_text fault.kind ++ 10 ∷ []
 text_of Usage = codes "usage: boxpleat design, check, contours, made or trial\n"
+text_of (GaveUp side bound) = codes "gave up: side " ++ decimal side ++ codes " bound " ++ decimal bound ++ 10 ∷ []
 text_of ReadFault = codes "read fault\n"
 text_of WriteFault = codes "write fault\n"
 text_of NoMemory = codes "no memory\n"
@@ -49,6 +50,7 @@ number_of Done = 0
 number_of (TreeRefused fault) = 1
 number_of (DocRefused fault) = 1
 number_of Usage = 2
+number_of (GaveUp side bound) = 3
 number_of ReadFault = 4
 number_of WriteFault = 5
 number_of NoMemory = 6

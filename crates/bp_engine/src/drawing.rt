@@ -85,7 +85,7 @@ fn refused(alloc: Global, reason: Reason) -> Result<Answer, NoMemory>
 }
 
 #[tactic(auto, unfolding(crate::specs::Documents::no_text))]
-fn no_text(alloc: Global, reason: Reason) -> Result<Vec<u8>, NoMemory>
+pub fn no_text(alloc: Global, reason: Reason) -> Result<Vec<u8>, NoMemory>
     ensures { IfOk result (λ v. v.items ≡ no_text reason) }
 {
     let mut text = Vec::new(alloc);
@@ -120,7 +120,7 @@ fn add(text: &mut Vec<u8>, bytes: &[u8]) -> Result<(), NoMemory>
     Ok(())
 }
 
-fn add_numbered(text: &mut Vec<u8>, start: &[u8], number: u64) -> Result<(), NoMemory>
+pub fn add_numbered(text: &mut Vec<u8>, start: &[u8], number: u64) -> Result<(), NoMemory>
     ensures { OnOk result (text.new.items ≡ text.old.items ++ start.now ++ decimal number) }
 {
     let mut digits = Digits::new();

@@ -2,10 +2,13 @@
 #![tactic(auto)]
 
 mod answering;
+mod checking;
 mod command;
 mod design;
 mod drawing;
+mod folding;
 mod options;
+mod outcome;
 mod reading;
 mod rewriting;
 mod searched;

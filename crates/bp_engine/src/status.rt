@@ -13,6 +13,8 @@ pub enum Status {
     DocRefused(DocFault),
     /// The words are not in the table of commands.
     Usage,
+    /// The budget was spent first: the design's side and its bound, in grid units, which is less.
+    GaveUp { side: u64, bound: u64 },
     /// A source that the command reads has failed.
     ReadFault,
     /// A sink that the command writes has failed; it then holds a front of its text.
@@ -38,6 +40,7 @@ impl Status {
             Status::TreeRefused(_) => 1,
             Status::DocRefused(_) => 1,
             Status::Usage => 2,
+            Status::GaveUp { .. } => 3,
             Status::ReadFault => 4,
             Status::WriteFault => 5,
             Status::NoMemory => 6,

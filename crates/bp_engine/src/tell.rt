@@ -8,7 +8,7 @@ ghost use Rattle.bp_engine.specs.Texts.{doc_kind_text, kind_text, text_of};
 use crate::Status;
 use bp_base::{Failed, Sink};
 use bp_document::{DocFault, DocKind};
-use bp_text::{put, put_parts};
+use bp_text::{Digits, put, put_parts};
 use bp_tree::{TreeFault, TreeKind};
 use itoa::Buffer;
 
@@ -32,12 +32,37 @@ fn put_status<E: Sink>(err: &mut E, status: Status) -> Result<(), Failed>
             err,
             b"usage: boxpleat design, check, contours, made or trial\n",
         ),
+        Status::GaveUp { side, bound } => put_gave_up(err, side, bound),
         Status::ReadFault => put(err, b"read fault\n"),
         Status::WriteFault => put(err, b"write fault\n"),
         Status::NoMemory => put(err, b"no memory\n"),
         Status::No(_) => put(err, b""),
         Status::NotBuilt => put(err, b"not built\n"),
     }
+}
+
+fn put_gave_up<E: Sink>(err: &mut E, side: u64, bound: u64) -> Result<(), Failed>
+    ensures text { Puts (E.held err.old) (E.held err.new) result (codes "gave up: side " ++ decimal side ++ codes " bound " ++ decimal bound ++ 10 ∷ []) }
+    ensures cause { HasCause (E.faults err.old) (E.faults err.new) result }
+{
+    put_two(err, b"gave up: side ", side, b" bound ", bound)
+}
+
+// Two numbers, each behind its words.
+fn put_two<E: Sink>(
+    err: &mut E,
+    start: &[u8],
+    first: u64,
+    middle: &[u8],
+    second: u64,
+) -> Result<(), Failed>
+    ensures text { Puts (E.held err.old) (E.held err.new) result (start.now ++ decimal first ++ middle.now ++ decimal second ++ 10 ∷ []) }
+    ensures cause { HasCause (E.faults err.old) (E.faults err.new) result }
+{
+    let mut digits = Digits::new();
+    let mut more = Digits::new();
+    let parts = [start, digits.of(first), middle, more.of(second), b"\n"];
+    put_parts(err, &parts)
 }
 
 fn put_fault<E: Sink>(err: &mut E, fault: TreeFault) -> Result<(), Failed>

@@ -1,27 +1,32 @@
+mod checks;
 mod documents;
+mod drawings;
+mod searches;
 
 use crate::run;
-use bp_base::{CountSink, MemSink, MemSource, OpenGate};
+use bp_base::{MemSink, MemSource, OpenGate};
 use std::alloc::Global;
 use std::process::Abort;
 use std::str;
 use std::test::Fail;
 use std::thread::Threads;
 
-// What a run leaves: its status's number, and what it wrote on `out` and `err`.
+// What a run leaves: its status's number, and what it wrote on `out`, `fold` and `err`.
 #[derive(Drop)]
 struct Left {
     number: u8,
     out: Vec<u8>,
+    fold: Vec<u8>,
     err: Vec<u8>,
 }
 
-// Which calls of the sources, of `out` and of `err` fail.
+// Which calls of the sources, of `out`, of `fold` and of `err` fail.
 #[derive(Clone, Copy)]
 struct Faults {
     read: u64,
     doc: u64,
     write: u64,
+    draw: u64,
     tell: u64,
 }
 
@@ -29,6 +34,7 @@ const NONE: Faults = Faults {
     read: 0,
     doc: 0,
     write: 0,
+    draw: 0,
     tell: 0,
 };
 
@@ -62,8 +68,8 @@ fn leave<R: Threads + Sync>(
         fails: vec![in alloc; faults.doc]?,
         faults: 0,
     };
-    let mut out = MemSink::new(alloc, 8192, 16, vec![in alloc; faults.write]?)?;
-    let mut fold = CountSink { length: 0 };
+    let mut out = MemSink::new(alloc, 16_777_216, 16, vec![in alloc; faults.write]?)?;
+    let mut fold = MemSink::new(alloc, 8192, 16, vec![in alloc; faults.draw]?)?;
     let mut err = MemSink::new(alloc, 256, 16, vec![in alloc; faults.tell]?)?;
     let status = run(
         rt,
@@ -79,6 +85,7 @@ fn leave<R: Threads + Sync>(
     Ok(Left {
         number: status.number(),
         out: out.bytes,
+        fold: fold.bytes,
         err: err.bytes,
     })
 }
@@ -108,7 +115,7 @@ fn designs_without_a_search(rt: HostRuntime) -> Result<(), Fail> {
             "",
         ),
         (
-            "design --workers 16 --budget 1 --replay 7",
+            "design --workers 16 --budget 1",
             "c p 1\nc q 1\nc r 1\nc s 1\n",
             0,
             "boxpleat 2\nsheet square\nedges 4\nedge c p 1\nedge c q 1\nedge c r 1\nedge c s 1\nside 2\nbound 2\npoint p 0 0\npoint q 0 2\npoint r 2 0\npoint s 2 2\nfloor 2 2 1 2 3 4\nproof none\nend\n",
@@ -301,14 +308,7 @@ fn refusals(rt: HostRuntime) -> Result<(), Fail> {
             "usage: boxpleat design, check, contours, made or trial\n",
         ),
         (
-            "design",
-            "c p 2\nc q 2\nc r 2\nc s 1\nc t 1\n",
-            8,
-            "",
-            "not built\n",
-        ),
-        (
-            "design --fold f",
+            "design --replay 7",
             "c p 1\nc q 1\nc r 1\nc s 1\n",
             8,
             "",
@@ -321,7 +321,6 @@ fn refusals(rt: HostRuntime) -> Result<(), Fail> {
             "",
             "not built\n",
         ),
-        ("check --tree f", "", 8, "", "not built\n"),
         ("contours", "", 1, "", "document: line 1: Cut\n"),
         ("rewrite", "", 1, "", "document: line 1: Cut\n"),
         ("pieces", "", 8, "", "not built\n"),

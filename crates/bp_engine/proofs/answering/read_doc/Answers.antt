@@ -1,4 +1,4 @@
-use Rattle.std.proofs.Common.{◌≡◌, List, ℕ, subst}
+use Rattle.std.proofs.Common.{List, ℕ, subst}
 use Rattle.bp_document.specs.declared.document.Document.{Document}
 use Rattle.bp_document.specs.Faults.{IsDocFault, IsTextOf}
 use Rattle.bp_engine.proofs.Answered.{reads_doc, refuses_doc}

@@ -1,5 +1,5 @@
 use Rattle.bp_engine.specs.Documents.{IsDrawn}
-use Rattle.bp_engine.proofs.Answered.{handled, unhandled, no_read_fault}
+use Rattle.bp_engine.proofs.Answered.{handled, no_read_fault}
 use Rattle.bp_engine.proofs.drawing.draw.Goals as goal
 
 pub returns-in-Ok-clause-draws : goal.returns-in-Ok-clause-draws

@@ -1,5 +1,4 @@
-use Rattle.std.proofs.Common.{◌≡◌, ◌+◌, ◌-◌, ◌<◌, ◌++◌, List, ℕ, length, map, slice_index, slice_index_or, sym, ap, subst, ◌∙◌, arith}
-use Rattle.bp_base.specs.declared.point.Point.{Point}
+use Rattle.std.proofs.Common.{◌≡◌, ◌+◌, ◌-◌, ◌++◌, List, ℕ, length, map, ap, subst, ◌∙◌, arith}
 use Rattle.bp_base.specs.Tree.{TreeValue, name_of}
 use Rattle.bp_contour.specs.declared.loops.Loop.{Loop}
 use Rattle.bp_regions.specs.Cells.{Reach}

@@ -1,0 +1,73 @@
+-- What a check in one pass answers for a source.
+use Rattle.std.specs.Prelude.{◌≡◌, ◌↔◌, ◌⊎◌, ℕ, ◌+◌, ◌≤◌, List, [], length, take, drop, Result, Ok, Err}
+use Rattle.std.specs.declared.option.Option.{Option}
+use Rattle.std.specs.declared.option.Option.TheVariants.{None, Some}
+use Rattle.bp_base.specs.Limits.{most_document_bytes}
+use Rattle.bp_base.specs.Tree.{TreeValue}
+use Rattle.bp_document.specs.declared.document.Document.{Document}
+use Rattle.bp_document.specs.declared.fault.DocFault.{DocFault}
+use Rattle.bp_document.specs.Faults.{IsDocFault, IsTextOf}
+use Rattle.bp_check.specs.declared.fault.CheckFault.{CheckFault}
+use Rattle.bp_check.specs.declared.fault.CheckFault.TheVariants.{Doc, Read, NoMemory}
+use Rattle.bp_check.specs.declared.fault.Streamed.{Streamed}
+use Rattle.bp_check.specs.declared.verdict.Reason.{Reason}
+use Rattle.bp_check.specs.declared.verdict.Verdict.TheVariants.{Yes, No}
+use Rattle.bp_check.specs.declared.pass.Pass.{Pass}
+use Rattle.bp_check.specs.Checks.{Checks}
+use Rattle.bp_check.specs.Pass.{Takes}
+use Rattle.bp_check.specs.Reasons.{IsFirstReason}
+
+-- P holds of the bytes, where they are told
+abbrev pub Told : Option (List ℕ) → (List ℕ → Type 0) → Type 0
+Told None P = Unit {0}
+Told (Some bytes) P = P bytes
+
+-- these bytes were read of what was left, where that is told
+abbrev pub HasRead : Option (List ℕ) → Option (List ℕ) → List ℕ → Type 0
+HasRead None now bytes = now ≡ None
+HasRead (Some left) now bytes = (now ≡ Some (drop (length bytes) left)) × (bytes ≡ take (length bytes) left)
+
+-- one byte more than a document has at most, by which a longer input is known
+abbrev pub most_read : ℕ
+most_read = most_document_bytes + 1
+
+-- The bytes are a document's text. Side and bound are the document's, and the verdict is yes exactly where it checks, and else its first reason.
+pub record ChecksText (T : TreeValue) (bytes : List ℕ) (s : Streamed) : Type 0 where
+  pub document : Document
+  pub text : IsTextOf bytes document
+  pub side : s.side ≡ document.side
+  pub bound : s.bound ≡ document.bound
+  pub yes : (s.verdict ≡ Yes) ↔ Checks T document
+  pub no : (reason : Reason) → ((s.verdict ≡ No reason) ↔ IsFirstReason T document reason)
+
+-- the bytes are no document's text, and this is their first fault
+pub record IsRefused (bytes : List ℕ) (f : DocFault) : Type 0 where
+  pub fault : IsDocFault bytes f
+  pub none : (D : Document) → IsTextOf bytes D → ⊥
+
+-- What is answered to these bytes, where they are all that there is.
+abbrev pub AnswersText : TreeValue → List ℕ → Result Streamed DocFault → Type 0
+AnswersText T bytes (Ok s) = ChecksText T bytes s
+AnswersText T bytes (Err f) = IsRefused bytes f
+
+-- What is answered to a source, by what was left of it and what is: it is read to its end, or to one byte past the limit. Some bytes were checked,
+-- and where the source tells its bytes they are these.
+abbrev pub Streams : TreeValue → Option (List ℕ) → Option (List ℕ) → Result Streamed CheckFault → Type 0
+Streams T left after (Ok s) = (bytes : List ℕ) × ChecksText T bytes s × Told left (λ b. (b ≡ bytes) × (after ≡ Some []))
+Streams T left after (Err (Doc f)) = Told left (λ b. IsRefused (take most_read b) f × (after ≡ Some (drop most_read b)))
+Streams T left after (Err Read) = Unit {0}
+Streams T left after (Err NoMemory) = Unit {0}
+
+-- the answer is no fault of a document
+abbrev pub IsNoDoc : CheckFault → Type 0
+IsNoDoc (Doc f) = ⊥
+IsNoDoc Read = Unit {0}
+IsNoDoc NoMemory = Unit {0}
+
+-- all bytes were read, or one past the limit
+abbrev pub IsReadTo : Option (List ℕ) → Option (List ℕ) → List ℕ → Type 0
+IsReadTo left after bytes = HasRead left after bytes × ((length bytes ≡ most_read) ⊎ ((length bytes ≤ most_read) × Told left (λ b. length b ≡ length bytes)))
+
+-- The pass has taken so many bytes more, which are all, or one more than the limit.
+abbrev pub IsTaken : Pass → Pass → Option (List ℕ) → Option (List ℕ) → ℕ → Type 0
+IsTaken p q left after count = (bytes : List ℕ) × (length bytes ≡ count) × IsReadTo left after bytes × Takes p q bytes

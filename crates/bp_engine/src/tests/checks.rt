@@ -1,0 +1,223 @@
+// `check`: a tree, and behind it a document.
+use super::{Faults, NONE, leave};
+use std::alloc::Global;
+use std::process::Abort;
+use std::test::Fail;
+use std::thread::Threads;
+
+const STAR: &str = "c p 2\nc q 2\nc r 2\nc s 1\nc t 1\n";
+
+const FIRST: &str =
+    "boxpleat 1\nedges 5\nedge c p 2\nedge c q 2\nedge c r 2\nedge c s 1\nedge c t 1\nside 5\nbound 4\npoint p 0 0\npoint q 0 4\npoint r 4 0\npoint s 3 3\npoint t 3 5\nfloor 2 4 1 2 3 4 5\nproof 2\n0 split 1 2\n1 open x 1 2\nend\n";
+
+const STRIP: &str =
+    "boxpleat 2\nsheet strip 4\nedges 5\nedge c p 2\nedge c q 2\nedge c r 2\nedge c s 1\nedge c t 1\nside 5\nbound 4\npoint p 0 0\npoint q 4 0\npoint r 0 4\npoint s 3 3\npoint t 3 5\nfloor 4 4 1 2 3\nproof 3\n0 split 1 2\n1 walk x 1 2\n1 walk y 1 2\nend\n";
+
+// Other text in place of a text that is found.
+fn with(alloc: Global, text: &str, old: &str, new: &str) -> Result<String, Fail> {
+    let text = text.replace(alloc, old, new)?;
+    Ok(text)
+}
+
+fn judge<R: Abort + Threads + Sync>(
+    rt: &R,
+    alloc: Global,
+    document: &str,
+    rows: &[(&str, &str, &str, u8, &str, &str)],
+) -> Result<(), Fail> {
+    for (tree, old, new, number, out, err) in rows {
+        let text = with(alloc, document, old, new)?;
+        let left = leave(
+            rt,
+            alloc,
+            "check --tree f",
+            tree.as_bytes(),
+            text.as_bytes(),
+            NONE,
+        )?;
+        assert_eq!(rt; left.number, *number, "{tree}, {text}");
+        assert_eq!(rt; left.out.as_slice(), out.as_bytes(), "{tree}, {text}");
+        assert_eq!(rt; left.err.as_slice(), err.as_bytes(), "{tree}, {text}");
+    }
+    Ok(())
+}
+
+#[test]
+fn one_change(rt: HostRuntime) -> Result<(), Fail> {
+    let rows = [
+        (STAR, "", "", 0, "yes side 5 bound 4\n", ""),
+        (
+            STAR,
+            "side 5",
+            "side 999999999",
+            0,
+            "yes side 999999999 bound 4\n",
+            "",
+        ),
+        (STAR, "bound 4", "bound 5", 7, "no BoundNotShown\n", ""),
+        (STAR, "t 3 5", "t 3 4", 7, "no TooNear 4 5\n", ""),
+        (STAR, "t 3 5", "t 3 6", 7, "no Outside 5\n", ""),
+        (STAR, "floor 2 4", "floor 2 5", 7, "no BadFloor\n", ""),
+        (STAR, "split 1 2", "split 2 1", 7, "no BadSplit 0\n", ""),
+        (STAR, "x 1 2", "x 2 1", 7, "no BadChain 1\n", ""),
+        (STAR, "x 1 2", "x 1 17", 7, "no BadChain 1\n", ""),
+        ("c p 1\nc q 1\n", "", "", 7, "no TreeDiffers\n", ""),
+        ("c p 0\nc q 1\n", "", "", 1, "", "tree: line 1: BadLength\n"),
+        (
+            "",
+            "boxpleat 1",
+            "boxpleat 3",
+            1,
+            "",
+            "tree: line 0: Empty\n",
+        ),
+        (
+            STAR,
+            "boxpleat 1",
+            "boxpleat 3",
+            1,
+            "",
+            "document: line 1: BadForm\n",
+        ),
+        (STAR, "c p 2", "c p 0", 1, "", "document: line 3: BadTree\n"),
+        (
+            STAR,
+            "side 5",
+            "side 1000000000",
+            1,
+            "",
+            "document: line 8: BadForm\n",
+        ),
+        (
+            STAR,
+            "proof 2",
+            "proof 0",
+            1,
+            "",
+            "document: line 16: BadForm\n",
+        ),
+        (
+            STAR,
+            "0 split",
+            "1 split",
+            1,
+            "",
+            "document: line 17: BadDepth\n",
+        ),
+        (
+            STAR,
+            "1 open",
+            "2 open",
+            1,
+            "",
+            "document: line 18: BadDepth\n",
+        ),
+        (
+            STAR,
+            "proof 2",
+            "proof 1",
+            1,
+            "",
+            "document: line 18: BadForm\n",
+        ),
+        (
+            STAR,
+            "proof 2",
+            "proof 3",
+            1,
+            "",
+            "document: line 19: BadForm\n",
+        ),
+        (
+            STAR,
+            "end\n",
+            "end\nx",
+            1,
+            "",
+            "document: line 20: Trailing\n",
+        ),
+        (STAR, "end\n", "end", 1, "", "document: line 19: Cut\n"),
+    ];
+    judge(&rt, rt.alloc(), FIRST, &rows)
+}
+
+#[test]
+fn strips(rt: HostRuntime) -> Result<(), Fail> {
+    let rows = [
+        (STAR, "", "", 0, "yes side 5 bound 4\n", ""),
+        (STAR, "strip 4", "square", 7, "no BadSplit 0\n", ""),
+        (
+            STAR,
+            "boxpleat 2\nsheet strip 4",
+            "boxpleat 1",
+            7,
+            "no BadSplit 0\n",
+            "",
+        ),
+        (
+            STAR,
+            "strip 4",
+            "strip 04",
+            1,
+            "",
+            "document: line 2: BadForm\n",
+        ),
+    ];
+    judge(&rt, rt.alloc(), STRIP, &rows)
+}
+
+// Each call of either source fails, until none is left to fail; how many there are.
+fn failing<R: Abort + Threads + Sync>(
+    rt: &R,
+    alloc: Global,
+    faults: &[Faults],
+) -> Result<u64, Fail> {
+    let mut count = 0u64;
+    for fault in faults {
+        let left = leave(
+            rt,
+            alloc,
+            "check --tree f",
+            STAR.as_bytes(),
+            FIRST.as_bytes(),
+            *fault,
+        )?;
+        if left.number == 4 {
+            assert_eq!(rt; left.out.len(), 0);
+            assert_eq!(rt; left.err.as_slice(), b"read fault\n".as_slice());
+            count = count.saturating_add(1);
+        }
+    }
+    Ok(count)
+}
+
+// The tree is read in one call, and the document, seven bytes a call, in 30; each has one more for its end.
+#[test]
+fn faults_at_each_call(rt: HostRuntime) -> Result<(), Fail> {
+    let alloc = rt.alloc();
+    let mut trees = Vec::new(alloc);
+    let mut documents = Vec::new(alloc);
+    for call in 1..60 {
+        trees.push(Faults { read: call, ..NONE })?;
+        documents.push(Faults { doc: call, ..NONE })?;
+    }
+    assert_eq!(rt; failing(&rt, alloc, &trees)?, 2);
+    let calls = FIRST.len() as u64 / 7 + 2;
+    assert_eq!(rt; failing(&rt, alloc, &documents)?, calls);
+    Ok(())
+}
+
+// A refused tree leaves the document unread, a failing one too; a failing sink is a fault of its own.
+#[test]
+fn order(rt: HostRuntime) -> Result<(), Fail> {
+    let alloc = rt.alloc();
+    let words = "check --tree f";
+    let first = Faults { doc: 1, ..NONE };
+    let left = leave(&rt, alloc, words, b"c p 0\n", FIRST.as_bytes(), first)?;
+    assert_eq!(rt; left.number, 1);
+    let write = Faults { write: 1, ..NONE };
+    let left = leave(&rt, alloc, words, STAR.as_bytes(), FIRST.as_bytes(), write)?;
+    assert_eq!(rt; left.number, 5);
+    assert_eq!(rt; left.out.len(), 0);
+    Ok(())
+}
