@@ -1,37 +1,80 @@
-//! The packing optimiser: reads a tree from standard input, and writes its design on standard output.
+//! The packing optimiser: does what its words say, over standard input and output and the files that they name.
 #![tactic(auto)]
 
-use bp_base::{CountSink, OpenGate, QuietSource};
-use bp_engine::run;
-use bp_outside::{Input, Output, words};
+use bp_base::{CountSink, OpenGate, QuietSource, Sink, Source};
+use bp_engine::{Status, Words, run, words_of};
+use bp_outside::{FileSink, FileSource, Input, Output, words};
 use std::io;
 use std::process::ExitCode;
+use std::rt::Runtime;
+use std::thread::Threads;
 
 fn main(rt: HostRuntime) -> ExitCode {
-    let alloc = rt.alloc();
     // Words that can't be had as text are a faulty command line, as no words at all are.
     let words = match words(&rt) {
         Ok(words) => words,
-        Err(_) => Vec::new(alloc),
+        Err(_) => Vec::new(rt.alloc()),
     };
-    let mut tree = Input::new(rt.reader());
-    let mut document = QuietSource {
-        bytes: Vec::new(alloc),
+    let mut err = Output::new(rt.stderr());
+    let status = match on_streams(&rt, &words, &mut err) {
+        Ok(status) => status,
+        Err(_) => {
+            let _ = err.write(b"no memory\n");
+            Status::NoMemory
+        }
+    };
+    ExitCode::from(status.number())
+}
+
+// Chooses what is read and written. A tree comes from standard input, or from the file that the words name; a document always comes from
+// standard input.
+fn on_streams<R: Runtime + AllocGlobal + Threads + Sync, E: Sink>(
+    rt: &R,
+    words: &[String],
+    err: &mut E,
+) -> io::Result<Status> {
+    let mut input = Input::new(rt.reader());
+    let mut nothing = QuietSource {
+        bytes: Vec::new(rt.alloc()),
         at: 0,
     };
-    let mut out = Output::new(io::writer(&rt));
-    let mut fold = CountSink { length: 0 };
-    let mut err = Output::new(rt.stderr());
-    let status = run(
-        &rt,
-        alloc,
-        &words,
-        &mut tree,
-        &mut document,
+    let mut no_fold = CountSink { length: 0 };
+    Ok(match words_of(words) {
+        Some(Words::Check { tree } | Words::Revise { tree, .. }) => {
+            let mut file = FileSource::at(rt, words[tree as usize].clone()?);
+            run_on(rt, words, &mut file, &mut input, &mut no_fold, err)
+        }
+        Some(Words::Contours | Words::Rewrite | Words::Pieces) => {
+            run_on(rt, words, &mut nothing, &mut input, &mut no_fold, err)
+        }
+        Some(Words::Design {
+            fold: Some(place), ..
+        }) => {
+            let mut file = FileSink::at(rt, words[place as usize].clone()?);
+            run_on(rt, words, &mut input, &mut nothing, &mut file, err)
+        }
+        _ => run_on(rt, words, &mut input, &mut nothing, &mut no_fold, err),
+    })
+}
+
+fn run_on<R: Runtime + AllocGlobal + Threads + Sync, T: Source, D: Source, F: Sink, E: Sink>(
+    rt: &R,
+    words: &[String],
+    tree: &mut T,
+    document: &mut D,
+    fold: &mut F,
+    err: &mut E,
+) -> Status {
+    let mut out = Output::new(io::writer(rt));
+    run(
+        rt,
+        rt.alloc(),
+        words,
+        tree,
+        document,
         &mut out,
-        &mut fold,
-        &mut err,
+        fold,
+        err,
         &OpenGate,
-    );
-    ExitCode::from(status.number())
+    )
 }
