@@ -17,7 +17,7 @@ use Rattle.bp_document.specs.Faults.{IsTextOf}
 use Rattle.bp_check.specs.declared.verdict.Reason.{Reason}
 use Rattle.bp_engine.specs.declared.design.Asked.{Asked}
 use Rattle.bp_engine.specs.declared.status.Status.{Status}
-use Rattle.bp_engine.specs.declared.status.Status.TheVariants.{Done, GaveUp, NoMemory, No}
+use Rattle.bp_engine.specs.declared.status.Status.TheVariants.{Done, TreeRefused, DocRefused, GaveUp, NoMemory, No}
 use Rattle.bp_engine.specs.Designs.{Designs, Sinks}
 use Rattle.bp_engine.specs.declared.words.Words.{Words}
 use Rattle.bp_engine.specs.declared.words.Words.TheVariants.{Design, Check, Contours, Made, Trial, Rewrite, Revise, Pieces}
