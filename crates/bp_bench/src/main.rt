@@ -1,16 +1,18 @@
-//! Times a warm path, a whole search with its records, and pushes and takes of a hand, on 16 leaves, and prints on standard error how
-//! many were done in how many milliseconds.
+//! Times a warm path, a whole search with its records, joining these, and pushes and takes of a hand, on 16 leaves, and prints on
+//! standard error how many were done in how many milliseconds.
 #![tactic(auto)]
 
 ghost use Rattle.std.specs.Prelude.{◌≡◌, ◌≤◌, ◌<◌, ◌*◌, ◌-◌, ◌+◌, ◌/◌, ◌++◌, ℕ, IsTrue, IfOk, OnOk, length};
 ghost use Rattle.bp_base.specs.Path.{IsPairOf};
 ghost use Rattle.bp_base.specs.Tree.{leaf_count};
 ghost use Rattle.bp_metric.specs.Samples.{is_sample, letters};
+ghost use Rattle.bp_core.specs.Underway.{IsUnderway};
 ghost use Rattle.bp_pool.specs.Shares.{IsTaskOf};
 ghost use Rattle.bp_warm.specs.Warm.{pair_count};
 
-use bp_base::{Choice, Name, NoMemory, Pair, Path, Step, Task, Tree};
+use bp_base::{Choice, Name, NoMemory, Pair, Path, Refutation, Settled, Step, Task, Tree};
 use bp_floor::floor;
+use bp_join::join;
 use bp_metric::Metric;
 use bp_opening::open;
 use bp_pool::{Hand, Take};
@@ -130,20 +132,41 @@ fn timed(rt: &impl Runtime, metric: &Metric, warm: &mut Warm) -> io::Result<()>
     Ok(())
 }
 
-// A whole search from the opening on; how many branches it examined.
-fn searched(alloc: Global, metric: &Metric) -> Result<u64, NoMemory> {
+// A whole search from the opening on, with as many branches as a search may have.
+fn searched(alloc: Global, metric: &Metric) -> Result<Settled, NoMemory>
+    ensures { IfOk result (λ Z. IsUnderway metric.now.tree metric.now.sheet 200000 Z) }
+{
     let opening = open(alloc, metric)?;
     let floor = floor(alloc, metric)?;
     let start = begin(alloc, metric, opening)?;
-    let found = search(alloc, metric, start, floor.side, 200_000)?;
-    Ok(found.examined)
+    search(alloc, metric, start, floor.side, 200_000)
+}
+
+// What the search has come to as one refutation.
+fn joined(alloc: Global, metric: &Metric, settled: Settled) -> Result<Refutation, NoMemory>
+    requires { IsUnderway metric.now.tree metric.now.sheet 200000 settled }
+{
+    let _leaves = metric.leaves();
+    let Settled { records, left, .. } = settled;
+    join(alloc, metric, records.into_vec(), left.into_vec())
 }
 
 fn timed_search(rt: &impl Runtime, alloc: Global, metric: &Metric) -> io::Result<()> {
     let start = Instant::now(rt)?;
-    let count = searched(alloc, metric).unwrap_or(0);
+    let Ok(settled) = searched(alloc, metric) else {
+        return Ok(());
+    };
     let spent = start.elapsed(rt)?.as_millis();
-    eprintln!(rt; "{count} branches of a search in {spent} ms")?;
+    let count = settled.examined;
+    let rate = u128::from(count).saturating_mul(1000) / spent.max(1);
+    eprintln!(rt; "{count} branches of a search in {spent} ms, {rate} a second")?;
+    let nodes = settled.records.len().saturating_add(settled.left.len());
+    let start = Instant::now(rt)?;
+    let refutation = joined(alloc, metric, settled);
+    let spent = start.elapsed(rt)?.as_millis();
+    if refutation.is_ok() {
+        eprintln!(rt; "{nodes} nodes joined in {spent} ms")?;
+    }
     Ok(())
 }
 

@@ -20,9 +20,7 @@ pub fn extended(alloc: Global, path: &Path, step: Step) -> Result<Path, NoMemory
     requires pair { IsSmallPair step.pair }
     ensures { IfOk result (λ p. p ≡ path.now ++ step ∷ []) }
 {
-    let mut longer = path.copy(alloc)?;
-    longer.push(step)?;
-    Ok(longer)
+    path.extended(alloc, step)
 }
 
 /// What the path with these least coordinates is against the bound, in grid units: closed where it forces at least the bound,

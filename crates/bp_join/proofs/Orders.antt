@@ -1,5 +1,5 @@
 -- The order of paths by their choices.
-use Rattle.std.proofs.Common.{◌≡◌, ◌⊎◌, inl, inr, ℕ, suc, ◌+◌, ◌<◌, ◌≤◌, min, length, get_or, drop, reverse, Some, Bool, true, false, if◌then◌else◌, List, [], ◌∷◌, ◌++◌, map, refl, sym, ◌∙◌, ap, subst, arith}
+use Rattle.std.proofs.Common.{◌≡◌, ◌⊎◌, inl, inr, ℕ, suc, ◌+◌, ◌<◌, ◌≤◌, min, length, get_or, take, drop, reverse, Some, Bool, true, false, if◌then◌else◌, List, [], ◌∷◌, ◌++◌, map, refl, sym, ◌∙◌, ap, subst, arith}
 use Rattle.std.specs.List.{AllByRecursion, slice_get}
 use Rattle.std.specs.List.Sorted.{IsSortedBy}
 use Rattle.std.specs.Cmp.{IsStrictWeakOrder}
@@ -11,7 +11,7 @@ use Rattle.std.specs.Cmp.Lexicographic.{slice_cmp}
 use Rattle.std.specs.Ordering.{is_lt, nat_cmp, ordering_then}
 use Rattle.std.specs.declared.cmp.Ordering.{Ordering}
 use Rattle.std.proofs.lemmas.Cmp.{tied_itself, nat_cmp_total, back_total, nat_list_cmp_total}
-use Rattle.std.proofs.lemmas.List.{drop_more, length-drop, map-append, reverse-append}
+use Rattle.std.proofs.lemmas.List.{drop_more, length-drop, map-append, reverse-append, take-append-drop}
 use Rattle.std.proofs.lemmas.List.Elements.{recursion_from_All}
 use Rattle.std.proofs.lemmas.List.Sorted.{ranks_by, sorted_far}
 use Rattle.std.proofs.lemmas.Bool.{cases_lt}
@@ -83,6 +83,17 @@ pub cmp_step : (ps qs : List Step) (k : ℕ) (s t : Step) (o : Ordering) → sli
 cmp_step ps qs k s t o at_p at_q is =
     (λ i. slice_cmp nat_cmp (choice_numbers (cmp_rest ps k s at_p i)) (choice_numbers (cmp_rest qs k t at_q i)))
     ∙ ap (λ (r : Ordering). ordering_then r (slice_cmp nat_cmp (choice_numbers (drop (k + 1) ps)) (choice_numbers (drop (k + 1) qs)))) (sym is)
+
+cmp_front : (ps p q : List Step) → path_cmp (ps ++ p) (ps ++ q) ≡ path_cmp p q
+cmp_front [] p q = refl
+cmp_front (s ∷ ps) p q = cmp_under s (ps ++ p) (ps ++ q) ∙ cmp_front ps p q
+
+-- past the steps that both have in common
+pub cmp_common : (p q : List Step) (k : ℕ) → take k p ≡ take k q → path_cmp p q ≡ path_cmp (drop k p) (drop k q)
+cmp_common p q k same =
+    (λ i. path_cmp (sym (take-append-drop k p) i) (sym (take-append-drop k q) i))
+    ∙ ap (λ (ps : List Step). path_cmp (take k p ++ drop k p) (ps ++ drop k q)) (sym same)
+    ∙ cmp_front (take k p) (drop k p) (drop k q)
 
 pub decided : (o r : Ordering) → (o ≡ Ordering.Equal → ⊥) → ordering_then o r ≡ o
 decided Ordering.Less r not = refl

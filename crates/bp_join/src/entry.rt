@@ -24,7 +24,7 @@ pub enum Found {
 pub fn compare(first: &Path, second: &Path) -> Ordering
     ensures { result ≡ path_cmp first.now second.now }
 {
-    for k in 0..first.len().min(second.len()) {
+    for k in first.common(second)..first.len().min(second.len()) {
         match rank(first.at(k).choice).cmp(&rank(second.at(k).choice)) {
             Ordering::Equal => {}
             other => return other,

@@ -1,11 +1,13 @@
 -- A search with one branch in hand, and what judging that branch changes.
-use Rattle.std.specs.Prelude.{◌≡◌, List, [], ◌∷◌, ◌++◌, map, reverse}
+use Rattle.std.specs.Prelude.{◌≡◌, ◌⊎◌, ◌-◌, List, [], ◌∷◌, ◌++◌, length, map, reverse, slice_get, Some}
 use Rattle.bp_base.specs.declared.path.Choice.{Choice}
 use Rattle.bp_base.specs.declared.path.Pair.{Pair}
+use Rattle.bp_base.specs.declared.path.Step.{Step}
 use Rattle.bp_base.specs.declared.point.Sheet.{Sheet}
 use Rattle.bp_base.specs.declared.record.Least.{Least}
 use Rattle.bp_base.specs.declared.record.Outcome.{Outcome}
 use Rattle.bp_base.specs.declared.record.Outcome.TheVariants.{Closed as IsClosed, Cyclic as IsCyclic, Solved as IsSolved, Split as IsSplit}
+use Rattle.bp_base.specs.declared.record.Record.{Record}
 use Rattle.bp_base.specs.declared.record.RecordKind.{RecordKind}
 use Rattle.bp_base.specs.declared.record.RecordKind.TheVariants.{Closed, Split}
 use Rattle.bp_base.specs.declared.record.Settled.{Settled}
@@ -23,6 +25,10 @@ IsOnItsWay T G Z = IsUnderway T G Z.examined Z
 -- the same, where t is in hand and is left too
 abbrev pub IsTaken : TreeValue → Sheet → Settled → Task → Type 0
 IsTaken T G Z t = IsOnItsWay T G (record Z { left = Z.left ++ t ∷ [] })
+
+-- the path has no step, or is that of the last record
+abbrev pub IsAt : List Step → List Record → Type 0
+IsAt path records = (r : Record) → slice_get records (length records - 1) ≡ Some r → (path ≡ []) ⊎ (r.path ≡ path)
 
 -- the branch of a choice, with the bound of the branch that was split
 abbrev pub child : Task → Pair → Choice → Task

@@ -1,16 +1,14 @@
 -- Beginnings of paths.
-use Rattle.std.proofs.Common.{◌≡◌, ℕ, ◌+◌, ◌-◌, ◌<◌, ◌≤◌, List, [], ◌∷◌, ◌++◌, length, get_or, take, drop, Some, refl, sym, ◌∙◌, ap, subst, arith}
+use Rattle.std.proofs.Common.{◌≡◌, ℕ, ◌+◌, ◌<◌, ◌≤◌, List, [], ◌∷◌, ◌++◌, length, get_or, take, drop, Some, sym, ◌∙◌, ap, subst, arith}
 use Rattle.std.specs.List.{slice_get}
-use Rattle.std.proofs.lemmas.List.{take_more, take-append-le, length-append, length-take-le, take_all}
+use Rattle.std.proofs.lemmas.List.{take_more, take-append-le, length-append}
 use Rattle.std.proofs.Math.ListN.{take-append-drop}
-use Rattle.std.proofs.lemmas.Option.{get_or_from_slice_get, slice_get_within}
 use Rattle.bp_base.specs.declared.point.Axis.{Axis}
 use Rattle.bp_base.specs.declared.point.Axis.TheVariants.{X, Y}
 use Rattle.bp_base.specs.declared.path.Step.{Step}
 use Rattle.bp_base.specs.declared.chain.Claim.{Claim}
 use Rattle.bp_base.specs.declared.chain.Claim.TheVariants.{Walk, Cycle}
-use Rattle.bp_base.specs.Path.{IsPairOf}
-use Rattle.bp_metric.specs.Chains.{ArePlaced, HasCycle, HasPairsOf, IsChain, IsCycle, Places}
+use Rattle.bp_metric.specs.Chains.{ArePlaced, HasCycle, IsCycle}
 use Rattle.bp_metric.specs.Coordinates.{IsCycleShown}
 use Rattle.bp_metric.proofs.Chains.{places_left, take_step}
 

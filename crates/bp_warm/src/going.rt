@@ -13,11 +13,13 @@ pub fn in_common(steps: &[Step], path: &Path) -> u64
     ensures within { (result ≤ length steps.now) × (result ≤ length path.now) }
     ensures same { take result steps.now ≡ take result path.now }
 {
-    let mut k = 0;
-    while k < steps.len() as u64 && k < path.len() && steps[k as usize] == path.at(k) {
-        k += 1;
+    let shorter = path.len().min(steps.len() as u64);
+    for k in 0..shorter {
+        if steps[k as usize] != path.at(k) {
+            return k;
+        }
     }
-    k
+    shorter
 }
 
 // Takes steps off, until so many are left.
@@ -59,6 +61,19 @@ impl Warm {
         ensures path { MatchOption result (self.new.path ≡ path.now) (λ claim. HasCycle (leaf_count self.old.metric.tree) path.now) }
     {
         let common = self.common(path);
+        self.go_from(metric, path, common)
+    }
+
+    /// The same, where so many steps at their beginnings are known to be the same.
+    pub fn go_from(&mut self, metric: &Metric, path: &Path, common: u64) -> Option<Claim>
+        requires metric { metric.now ≡ self.old.metric }
+        requires pairs { HasPairsOf (leaf_count self.old.metric.tree) path.now }
+        requires short { length path.now ≤ pair_count self.old.metric.tree }
+        requires within { (common ≤ length self.old.path) × (common ≤ length path.now) }
+        requires same { take common self.old.path ≡ take common path.now }
+        ensures metric { self.new.metric ≡ self.old.metric }
+        ensures path { MatchOption result (self.new.path ≡ path.now) (λ claim. HasCycle (leaf_count self.old.metric.tree) path.now) }
+    {
         back_to(self, common);
         on_to(self, metric, path)
     }

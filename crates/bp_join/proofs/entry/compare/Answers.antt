@@ -1,7 +1,10 @@
 use Rattle.std.proofs.Common.{◌≡◌, ◌∙◌, sym, arith, nat_cmp, Equal}
 use Rattle.bp_base.specs.Bags.{choice_number}
-use Rattle.bp_join.proofs.Orders.{cmp_step, cmp_end, decided}
+use Rattle.bp_join.proofs.Orders.{cmp_common, cmp_step, cmp_end, decided}
 use Rattle.bp_join.proofs.entry.compare.Goals as goal
+
+pub loop-k-init : goal.loop-k-init
+loop-k-init c = cmp_common c.args.first.now c.args.second.now c.common-k.result c.common-k.ensures.same
 
 pub returns-in_default : goal.returns-in_default
 returns-in_default c =

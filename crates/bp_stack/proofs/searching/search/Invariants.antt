@@ -1,10 +1,12 @@
 use Rattle.std.proofs.Common.{◌≡◌, ◌-◌}
 use Rattle.bp_core.specs.Underway.{IsUnderway}
+use Rattle.bp_stack.specs.Turns.{IsAt}
 use Rattle.bp_stack.proofs.searching.search.Given as goal
 
 abbrev pub invariant-loop-search : goal.invariant-loop-search
 invariant-loop-search l = record {
   warm : l.warm.metric ≡ l.metric;
+  at : IsAt l.warm.path l.search.records;
   underway : IsUnderway l.metric.tree l.metric.sheet l.budget l.search;
 }
 

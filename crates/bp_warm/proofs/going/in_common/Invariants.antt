@@ -1,4 +1,4 @@
-use Rattle.std.proofs.Common.{◌≡◌, ◌-◌, ◌≤◌, length, take}
+use Rattle.std.proofs.Common.{◌≡◌, ◌≤◌, length, take}
 use Rattle.bp_warm.proofs.going.in_common.Given as goal
 
 abbrev pub invariant-loop-k : goal.invariant-loop-k
@@ -7,6 +7,3 @@ invariant-loop-k l = record {
   in_path : l.k ≤ length l.path;
   same : take l.k l.steps ≡ take l.k l.path;
 }
-
-abbrev pub decreases-loop-k : goal.decreases-loop-k
-decreases-loop-k l = length l.steps - l.k

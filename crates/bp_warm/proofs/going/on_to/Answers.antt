@@ -1,7 +1,5 @@
-use Rattle.std.proofs.Common.{rules, ◌≡◌, ◌+◌, take, ◌∙◌, ◌++◌, ◌∷◌, [], List, ap, sym, subst, arith}
+use Rattle.std.proofs.Common.{◌≡◌, ◌+◌, take, ◌∙◌, ◌++◌, ◌∷◌, [], List, ap, sym, subst, arith}
 use Rattle.bp_base.specs.declared.path.Step.{Step}
-use Rattle.bp_base.specs.declared.chain.Claim.TheVariants.{Walk, Cycle}
-use Rattle.bp_base.specs.declared.point.Axis.TheVariants.{X, Y}
 use Rattle.bp_base.specs.Tree.{leaf_count}
 use Rattle.bp_metric.proofs.Chains.{take_step}
 use Rattle.bp_metric.specs.Chains.{HasCycle}
