@@ -1,6 +1,6 @@
 -- What a pass answers at the end of the input.
-use Rattle.std.proofs.Common.{◌≡◌, ◌≢◌, ◌⊎◌, ◌↔◌, ℕ, ◌+◌, ◌<◌, ◌≤◌, inl, inr, true, false, Bool, List, [], ◌∷◌, ◌++◌, ◌==◌, length, take, drop, All, Option, None, Some, Result, Ok, Err, refl, sym, ◌∙◌, ap, subst, arith}
-use Rattle.std.proofs.lemmas.Bool.{cases_lt, true≢false, false≢true}
+use Rattle.std.proofs.Common.{◌≡◌, ℕ, ◌<◌, ◌≤◌, inl, true, false, List, [], ◌++◌, ◌==◌, length, Option, None, Some, Result, Ok, Err, refl, sym, ◌∙◌, ap, subst}
+use Rattle.std.proofs.lemmas.Bool.{true≢false}
 use Rattle.std.proofs.lemmas.Bool.Decides.{Decides-eqb}
 use Rattle.std.proofs.lemmas.List.{append-nil, nil_from_length}
 use Rattle.bp_base.specs.declared.point.Floor.{Floor}
@@ -10,28 +10,25 @@ use Rattle.bp_base.specs.declared.refutation.Refutation.{Refutation}
 use Rattle.bp_base.specs.Limits.{most_document_bytes}
 use Rattle.bp_base.specs.Tree.{TreeValue}
 use Rattle.bp_document.specs.declared.document.Document.{Document}
-use Rattle.bp_document.specs.declared.fault.DocKind.TheVariants.{TooLong, Cut}
+use Rattle.bp_document.specs.declared.fault.DocKind.TheVariants.{TooLong}
 use Rattle.bp_document.specs.declared.fault.DocFault.{DocFault}
 use Rattle.bp_document.specs.declared.head.Head.{Head}
 use Rattle.bp_document.specs.declared.node_line.NodeLine.{NodeLine}
-use Rattle.bp_document.specs.Faults.{HasOneAnswer, IsDocFault, IsFaultAt, IsTextOf}
+use Rattle.bp_document.specs.Faults.{HasOneAnswer, IsDocFault}
 use Rattle.bp_document.specs.Places.{IsHead}
 use Rattle.bp_document.specs.Stages.{told_head}
-use Rattle.bp_document.specs.Scanning.{Progress, FeedsLine, FinishesText, HasFed, HasSameFault, HasTold, IsDocumentFed, IsFaultBehind, TellsHead}
+use Rattle.bp_document.specs.Scanning.{Progress, FeedsLine, FinishesText, HasSameFault, HasTold, IsDocumentFed, TellsHead}
 use Rattle.bp_document.specs.Told.{IsProofTold, IsToldBy, node_list}
 use Rattle.bp_document.proofs.ReadBytes.{cut_fault, fault_at}
-use Rattle.bp_check.specs.declared.fault.CheckFault.{CheckFault}
-use Rattle.bp_check.specs.declared.fault.CheckFault.TheVariants.{Doc, Read, NoMemory}
 use Rattle.bp_check.specs.declared.fault.Streamed.{Streamed}
 use Rattle.bp_check.specs.declared.found.Found.{Found}
 use Rattle.bp_check.specs.declared.pass.Pass.{Pass}
 use Rattle.bp_check.specs.declared.stack.Stack.{Stack}
 use Rattle.bp_check.specs.declared.verdict.Reason.{Reason}
-use Rattle.bp_check.specs.declared.verdict.Verdict.{Verdict}
 use Rattle.bp_check.specs.Stack.{HasTaken}
 use Rattle.bp_check.specs.Verdicts.{HasParts, IsFoundOf, IsReasonBeforeProof, IsVerdictOf, verdict_of}
-use Rattle.bp_check.specs.Pass.{HasFaultIn, PassedTo, HasPassed, IsScanned, IsWhole, EndsPass, Takes}
-use Rattle.bp_check.specs.Streams.{Told, HasRead, most_read, ChecksText, IsRefused, AnswersText, Streams, IsReadTo}
+use Rattle.bp_check.specs.Pass.{HasFaultIn, PassedTo, HasPassed, IsScanned, IsWhole, EndsPass}
+use Rattle.bp_check.specs.Streams.{ChecksText, IsRefused, AnswersText}
 use Rattle.bp_check.proofs.Passing.{held_fault, held_none, held_some, passed_whole}
 use Rattle.bp_check.proofs.Reasoning.{yes_is, no_is}
 

@@ -1,5 +1,5 @@
 -- Bytes that a pass takes, line by line.
-use Rattle.std.proofs.Common.{◌≡◌, ◌≢◌, ◌⊎◌, ℕ, ◌+◌, ◌-◌, ◌<◌, ◌≤◌, inl, inr, true, false, cond, Bool, List, [], ◌∷◌, ◌++◌, length, take, drop, All, Option, None, Some, Result, Ok, Err, refl, sym, ◌∙◌, ap, subst, arith, append_assoc, length-append}
+use Rattle.std.proofs.Common.{◌≡◌, ◌≢◌, ◌⊎◌, ℕ, ◌+◌, ◌-◌, ◌≤◌, inl, inr, true, false, cond, Bool, List, [], ◌∷◌, ◌++◌, length, take, drop, All, Option, None, Some, Result, Ok, Err, refl, sym, ◌∙◌, ap, subst, arith, append_assoc, length-append}
 use Rattle.std.specs.Option.{is_some}
 use Rattle.std.specs.Result.{OnOk}
 use Rattle.std.proofs.lemmas.Bool.{cases_lt, true≢false}
@@ -20,7 +20,7 @@ use Rattle.bp_document.specs.declared.stage.Stage.TheVariants.{Version, Sheet as
 use Rattle.bp_document.specs.Forms.{IsProofCount}
 use Rattle.bp_document.specs.Places.{count_of, IsStart}
 use Rattle.bp_document.specs.Stages.{told_head, with_node}
-use Rattle.bp_document.specs.Scanning.{Progress, IsUnbroken, HasFed, FeedsLine, IsFaultBehind, IsFineBehind, TellsHead, HasTold, IsTooLongForAll, HasSameFault}
+use Rattle.bp_document.specs.Scanning.{Progress, HasFed, FeedsLine, IsFaultBehind, IsFineBehind, TellsHead, HasTold, IsTooLongForAll, HasSameFault}
 use Rattle.bp_document.proofs.ReadBytes.{next_text}
 use Rattle.bp_check.specs.declared.pass.Pass.{Pass}
 use Rattle.bp_check.specs.declared.stack.Stack.{Stack}

@@ -4,7 +4,7 @@ use Rattle.std.specs.Prelude.{codes}
 use Rattle.bp_base.specs.declared.point.Sheet.{Sheet}
 use Rattle.bp_base.specs.declared.point.Sheet.TheVariants.{Square, Strip}
 use Rattle.bp_metric.specs.Metric.{IsSheet}
-use Rattle.bp_document.specs.Lines.{line, sheet_line}
+use Rattle.bp_document.specs.Lines.{sheet_line}
 use Rattle.bp_document.specs.Forms.{IsLine, IsSheetLine, version_line}
 use Rattle.bp_document.specs.FormWords.{sheet_words}
 use Rattle.bp_document.specs.Places.{IsStart}

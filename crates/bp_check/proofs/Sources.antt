@@ -1,15 +1,13 @@
 -- A source that is read piece by piece, and what is answered for it.
-use Rattle.std.proofs.Common.{◌≡◌, ◌⊎◌, inl, inr, ℕ, ◌+◌, ◌-◌, ◌<◌, ◌≤◌, List, [], ◌++◌, length, take, drop, Result, Ok, Err, refl, sym, ap, subst, ◌∙◌, arith, length-append}
+use Rattle.std.proofs.Common.{◌≡◌, ◌⊎◌, inl, inr, ℕ, ◌+◌, ◌≤◌, List, [], ◌++◌, length, take, drop, Ok, Err, refl, sym, ap, subst, ◌∙◌, arith, length-append}
 use Rattle.std.specs.declared.option.Option.{Option}
 use Rattle.std.specs.declared.option.Option.TheVariants.{None, Some}
 use Rattle.std.proofs.lemmas.List.{append-nil, drop-drop, take_all, length-take, length-take-le, length-drop, nil_from_length}
 use Rattle.std.proofs.Math.Seq.{take-add}
 use Rattle.bp_base.specs.Causes.{Reads, EndsAt}
-use Rattle.bp_base.specs.Limits.{most_document_bytes}
 use Rattle.bp_base.specs.Tree.{TreeValue}
 use Rattle.bp_document.specs.declared.fault.DocFault.{DocFault}
-use Rattle.bp_check.specs.declared.fault.CheckFault.{CheckFault}
-use Rattle.bp_check.specs.declared.fault.CheckFault.TheVariants.{Doc, Read, NoMemory}
+use Rattle.bp_check.specs.declared.fault.CheckFault.TheVariants.{Doc}
 use Rattle.bp_check.specs.declared.fault.Streamed.{Streamed}
 use Rattle.bp_check.specs.declared.pass.Pass.{Pass}
 use Rattle.bp_check.specs.Pass.{Takes}

@@ -1,5 +1,4 @@
-use Rattle.std.proofs.Common.{Option, None, Some, ◌∙◌, refl}
-use Rattle.bp_check.specs.declared.verdict.Reason.{Reason}
+use Rattle.std.proofs.Common.{None, Some, ◌∙◌, refl}
 use Rattle.bp_check.proofs.Ending.{reason_there, with_floor}
 use Rattle.bp_check.proofs.Reasoning.{found_verdict}
 use Rattle.bp_check.proofs.pass.verdict.Goals as goal

@@ -1,4 +1,4 @@
-use Rattle.std.proofs.Common.{ℕ, ◌≤◌, ◌+◌, length, take, arith, length-take}
+use Rattle.std.proofs.Common.{◌≤◌, length, arith, length-take}
 use Rattle.bp_check.proofs.Sources.{nothing_taken, more_taken, all_taken}
 use Rattle.bp_check.proofs.streaming.take_all.Goals as goal
 

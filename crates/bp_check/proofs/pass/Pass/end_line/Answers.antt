@@ -1,4 +1,4 @@
-use Rattle.std.proofs.Common.{◌≡◌, ◌∷◌, [], Option, None, Some, Result, Ok, Err, All, true, ◌≢◌, refl, sym, subst, ap}
+use Rattle.std.proofs.Common.{◌≡◌, Option, None, Some, Result, Ok, Err, All, true, ◌≢◌, refl, sym, subst, ap}
 use Rattle.bp_document.specs.declared.fault.DocFault.{DocFault}
 use Rattle.bp_document.specs.declared.node_line.NodeLine.{NodeLine}
 use Rattle.bp_check.proofs.Passing.{fed_held, no_node, node_ahead, node_judged, line_refused, passing_free}
