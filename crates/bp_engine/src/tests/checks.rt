@@ -1,11 +1,10 @@
 // `check`: a tree, and behind it a document.
+use super::searches::{BEETLE, STAR, STRIP as SEARCHED, WHOLE};
 use super::{Faults, NONE, leave};
 use std::alloc::Global;
 use std::process::Abort;
 use std::test::Fail;
 use std::thread::Threads;
-
-const STAR: &str = "c p 2\nc q 2\nc r 2\nc s 1\nc t 1\n";
 
 const FIRST: &str =
     "boxpleat 1\nedges 5\nedge c p 2\nedge c q 2\nedge c r 2\nedge c s 1\nedge c t 1\nside 5\nbound 4\npoint p 0 0\npoint q 0 4\npoint r 4 0\npoint s 3 3\npoint t 3 5\nfloor 2 4 1 2 3 4 5\nproof 2\n0 split 1 2\n1 open x 1 2\nend\n";
@@ -163,7 +162,77 @@ fn strips(rt: HostRuntime) -> Result<(), Fail> {
             "document: line 2: BadForm\n",
         ),
     ];
-    judge(&rt, rt.alloc(), STRIP, &rows)
+    judge(&rt, rt.alloc(), STRIP, &rows)?;
+    let rows = [
+        (STAR, "", "", 0, "yes side 5 bound 5\n", ""),
+        (
+            STAR,
+            "sheet strip 4",
+            "sheet square",
+            7,
+            "no BadSplit 0\n",
+            "",
+        ),
+        (
+            STAR,
+            "boxpleat 2\nsheet strip 4",
+            "boxpleat 1",
+            7,
+            "no BadSplit 0\n",
+            "",
+        ),
+    ];
+    judge(&rt, rt.alloc(), SEARCHED, &rows)
+}
+
+#[test]
+fn whole_search(rt: HostRuntime) -> Result<(), Fail> {
+    let first = with(rt.alloc(), WHOLE, "boxpleat 2\nsheet square", "boxpleat 1")?;
+    let five = "c p 1\nc q 1\nc r 1\nc s 1\nc t 1\n";
+    let rows = [
+        (STAR, "", "", 0, "yes side 5 bound 5\n", ""),
+        (STAR, "bound 5", "bound 6", 7, "no BoundNotShown\n", ""),
+        (five, "", "", 7, "no TreeDiffers\n", ""),
+        (STAR, "t 3 5", "t 3 4", 7, "no TooNear 4 5\n", ""),
+        (STAR, "t 3 5", "t 3 6", 7, "no Outside 5\n", ""),
+        (STAR, "floor 2 4", "floor 2 5", 7, "no BadFloor\n", ""),
+    ];
+    judge(&rt, rt.alloc(), &first, &rows)
+}
+
+// What `design` writes is answered by yes.
+#[test]
+fn written_documents(rt: HostRuntime) -> Result<(), Fail> {
+    let alloc = rt.alloc();
+    let twigs = "r a 2\nr b 2\na a1 1\na a2 1\nb b1 1\nb b2 1\n";
+    let rows = [
+        ("design", "c p 1\nc q 1\nc r 1\nc s 1\n"),
+        ("design", "c p 3\nc q 4\n"),
+        ("design", "c p 1\nc q 1\nc r 1\nc s 1\nc t 1\n"),
+        ("design", STAR),
+        ("design --budget 1", STAR),
+        ("design", twigs),
+        ("design --budget 5000", BEETLE),
+        ("design --strip 0", "c p 1\nc q 1\nc r 1\nc s 1\n"),
+        ("design --strip 4", "c p 1\nc q 1\nc r 1\n"),
+        ("design --strip 5", STAR),
+        ("design --strip 4 --budget 200000", STAR),
+        ("design --strip 4 --budget 7 --workers 4", STAR),
+    ];
+    for (line, tree) in rows {
+        let design = leave(&rt, alloc, line, tree.as_bytes(), b"", NONE)?;
+        let left = leave(
+            &rt,
+            alloc,
+            "check --tree f",
+            tree.as_bytes(),
+            &design.out,
+            NONE,
+        )?;
+        assert_eq!(rt; left.number, 0, "{line}, {tree}");
+        assert!(rt; left.out.starts_with(b"yes side "), "{line}, {tree}");
+    }
+    Ok(())
 }
 
 // Each call of either source fails, until none is left to fail; how many there are.
@@ -219,5 +288,29 @@ fn order(rt: HostRuntime) -> Result<(), Fail> {
     let left = leave(&rt, alloc, words, STAR.as_bytes(), FIRST.as_bytes(), write)?;
     assert_eq!(rt; left.number, 5);
     assert_eq!(rt; left.out.len(), 0);
+    Ok(())
+}
+
+// Cuts the text after each byte but the last, and answers in how many lines it was cut.
+fn cut<R: Abort + Threads + Sync>(rt: &R, alloc: Global, bytes: &[u8]) -> Result<u64, Fail> {
+    let mut line = 1u64;
+    for at in 0..bytes.len() {
+        if at > 0 && bytes[at - 1] == b'\n' {
+            line = line.saturating_add(1);
+        }
+        let text = &bytes[..at];
+        let left = leave(rt, alloc, "check --tree f", STAR.as_bytes(), text, NONE)?;
+        let err = format!(in alloc; "document: line {line}: Cut\n")?;
+        assert_eq!(rt; left.number, 1);
+        assert_eq!(rt; left.out.len(), 0);
+        assert_eq!(rt; left.err.as_slice(), err.as_str().as_bytes());
+    }
+    Ok(line)
+}
+
+#[test]
+fn cut_at_each_byte(rt: HostRuntime) -> Result<(), Fail> {
+    let lines = cut(&rt, rt.alloc(), FIRST.as_bytes())?;
+    assert_eq!(rt; lines, 19);
     Ok(())
 }

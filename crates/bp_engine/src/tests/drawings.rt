@@ -60,12 +60,30 @@ fn fail<R: Abort + Threads + Sync>(
     Ok(())
 }
 
-// Nothing of the drawing is written before the whole document.
+// What so many calls of a sink take, 16 bytes each.
+fn front(text: &str, calls: usize) -> &[u8] {
+    let bytes = text.as_bytes();
+    bytes.get(..calls.saturating_mul(16)).unwrap_or(bytes)
+}
+
+// Each call of `out` fails, then each of `fold`. Nothing of the drawing is written before the whole document.
 #[test]
 fn faults_of_writing(rt: HostRuntime) -> Result<(), Fail> {
     let alloc = rt.alloc();
-    let out = Faults { write: 2, ..NONE };
-    fail(&rt, alloc, out, b"boxpleat 2\nsheet", b"")?;
-    let fold = Faults { draw: 2, ..NONE };
-    fail(&rt, alloc, fold, DOCUMENT.as_bytes(), b"{\"file_spec\":1.1")
+    for calls in 0..DOCUMENT.len().div_ceil(16) {
+        let out = Faults {
+            write: calls as u64 + 1,
+            ..NONE
+        };
+        fail(&rt, alloc, out, front(DOCUMENT, calls), b"")?;
+    }
+    for calls in 0..DRAWING.len().div_ceil(16) {
+        let fold = Faults {
+            draw: calls as u64 + 1,
+            ..NONE
+        };
+        let text = front(DRAWING, calls);
+        fail(&rt, alloc, fold, DOCUMENT.as_bytes(), text)?;
+    }
+    Ok(())
 }
