@@ -47,9 +47,12 @@ fn on_streams<R: Runtime + AllocGlobal + Threads + Sync, E: Sink>(
         Some(Words::Contours | Words::Rewrite | Words::Pieces) => {
             run_on(rt, words, &mut nothing, &mut input, &mut no_fold, err)
         }
-        Some(Words::Design {
-            fold: Some(place), ..
-        }) => {
+        Some(
+            Words::Design {
+                fold: Some(place),
+                ..
+            },
+        ) => {
             let mut file = FileSink::at(rt, words[place as usize].clone()?);
             run_on(rt, words, &mut input, &mut nothing, &mut file, err)
         }
