@@ -7,3 +7,5 @@ pub mod Padded
 pub mod Path
 pub mod Chain
 pub mod Bags
+pub mod Generator
+pub mod Turns

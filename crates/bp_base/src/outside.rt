@@ -57,3 +57,15 @@ impl Gate for OpenGate {
         let _ = (hand, records);
     }
 }
+
+/// Who moves next among hands that take turns.
+pub trait Schedule {
+    /// What a turn among so many live hands leads to, by its answer: the state before, the count, the answer and the state after.
+    ghost turns: { Self → ℕ → ℕ → Self → Type 0 };
+
+    /// Which live hand moves next, counted from 0 in rising order.
+    fn turn(&mut self, live: u64) -> u64
+        requires { 1 ≤ live }
+        ensures below { result < live }
+        ensures turns { turns self.old live result self.new };
+}

@@ -6,6 +6,8 @@ use sqlite_items::Items;
 use std::alloc::Global;
 use std::process::Abort;
 use std::test::Fail;
+use std::thread;
+use std::thread::Threads;
 
 fn moves<T: Send>(_: &T) {}
 
@@ -320,5 +322,72 @@ fn memory_sink(rt: HostRuntime) -> Result<(), Fail> {
     gate.pass(1, 0);
     moves(&gate);
     shares(&gate);
+    Ok(())
+}
+
+#[test]
+fn schedules(rt: HostRuntime) -> Result<(), Fail> {
+    let mut list = ListSchedule {
+        numbers: numbers(rt.alloc(), &[7, 2, u64::MAX])?,
+        at: 0,
+    };
+    for (live, wanted) in [(4, 3), (2, 0), (16, 15), (3, 0), (1, 0)] {
+        assert_eq!(rt; turn_of(&mut list, live), wanted);
+    }
+    moves(&list);
+    let mut seed = SeedSchedule { state: 1 };
+    for (live, wanted) in [(100_000, 16_838), (100_000, 5_758), (3, 0), (16, 11)] {
+        assert_eq!(rt; turn_of(&mut seed, live), wanted);
+    }
+    moves(&seed);
+    let mut state = u64::from(u32::MAX);
+    assert_eq!(rt; draw(&mut state), 15929);
+    law_of_turns();
+    Ok(())
+}
+
+fn turn_of<Q: Schedule>(schedule: &mut Q, live: u64) -> u64 {
+    if live == 0 { 0 } else { schedule.turn(live) }
+}
+
+// Both hands pass, each in a thread of its own.
+fn both_pass<R: Threads + Sync>(rt: &R, gate: &HoldGate, hands: &mut [u64]) {
+    thread::for_each_mut(
+        rt,
+        hands,
+        2,
+        &|_, hand| {
+            for records in 0..4 {
+                gate.pass(*hand, records);
+            }
+        },
+    );
+}
+
+#[test]
+fn hold_gate(rt: HostRuntime) -> Result<(), Fail> {
+    let together = HoldGate::new();
+    both_pass(&rt, &together, &mut [1, 2]);
+    assert!(rt; !together.gave_up());
+    together.pass(1, 0);
+    together.pass(2, 1);
+    assert!(rt; !together.gave_up());
+    moves(&together);
+    shares(&together);
+    Ok(())
+}
+
+// One thread makes the passes of all hands: those of hands that aren't held, and then one that is.
+#[test]
+fn hold_gate_alone(rt: HostRuntime) -> Result<(), Fail> {
+    let alone = HoldGate::new();
+    for (hand, records) in [(2, 0), (3, 1), (0, 1)] {
+        alone.pass(hand, records);
+    }
+    assert!(rt; !alone.gave_up());
+    alone.pass(2, 1);
+    assert!(rt; alone.gave_up());
+    alone.pass(1, 0);
+    alone.pass(2, 2);
     Ok(())
 }
