@@ -168,3 +168,9 @@ abbrev pub IsOnlyAnswer : List ℕ → Result TreeValue ReadTree → Type 0
 IsOnlyAnswer bytes (Ok T) = ((U : TreeValue) → TreeOf bytes U → U ≡ T) × ((f : TreeFault) → IsTreeFault bytes f → ⊥)
 IsOnlyAnswer bytes (Err (Fault f)) = (g : TreeFault) → IsTreeFault bytes g → g ≡ f
 IsOnlyAnswer bytes (Err NoMemory) = Unit
+
+-- Bytes are those of at most one tree, or have at most one first fault, and not both.
+pub record HasOneAnswer (bytes : List ℕ) : Type 0 where
+  pub tree : (T U : TreeValue) → TreeOf bytes T → TreeOf bytes U → T ≡ U
+  pub either : (T : TreeValue) (f : TreeFault) → TreeOf bytes T → IsTreeFault bytes f → ⊥
+  pub fault : (f g : TreeFault) → IsTreeFault bytes f → IsTreeFault bytes g → f ≡ g

@@ -5,6 +5,7 @@ mod edge;
 mod fault;
 mod grower;
 mod json;
+mod laws;
 mod leaves;
 mod reading;
 mod words;
@@ -13,6 +14,7 @@ mod writing;
 pub use edge::Edge;
 pub use fault::{ReadTree, TreeFault, TreeKind};
 pub use grower::Grower;
+pub use laws::{law_of_one_answer, law_of_texts};
 pub use reading::read_tree;
 pub use writing::write_tree;
 

@@ -1,4 +1,4 @@
-use crate::{ReadTree, TreeKind, read_tree, write_tree};
+use crate::{ReadTree, TreeKind, law_of_one_answer, law_of_texts, read_tree, write_tree};
 use bp_base::{Failed, MemSink, Tree};
 use std::alloc::{AllocError, Global};
 use std::test::Fail;
@@ -225,11 +225,21 @@ fn trees_are_written_in_node_order(rt: HostRuntime) -> Result<(), Fail> {
     Ok(())
 }
 
+fn moves<T: Send>(_: &T) {}
+
+// What is wrong may go to another thread.
+fn crosses(error: &ReadTree) {
+    moves(error);
+}
+
 #[test]
 fn what_is_wrong_is_told(rt: HostRuntime) -> Result<(), Fail> {
+    law_of_one_answer();
+    law_of_texts();
     match read_tree(rt.alloc(), b"c p 1\nc p 2\n") {
         Ok(_) => Err("a tree".into()),
         Err(error) => {
+            crosses(&error);
             let text = format!(in rt.alloc(); "{error}")?;
             assert_eq!(rt; text.as_str(), "line 2: RepeatedName");
             Ok(())
