@@ -25,9 +25,10 @@ pub fn head(swap: &[Pair]) -> Pair
     ensures head { result ≡ head swap.now }
 {
     let first = least_leaf(swap);
+    let second = sent(swap, first);
     Pair {
         i: first,
-        j: sent(swap, first),
+        j: second,
     }
 }
 
