@@ -17,7 +17,7 @@ use Rattle.bp_metric.specs.Next.{IsNext}
 use Rattle.bp_metric.specs.Valid.{Valid, Lies, IsPair}
 use Rattle.bp_branch.specs.Branches.{points_of, low_points}
 
-points_long : (xs ys : List ℕ) → length xs ≡ length ys → length (points_of xs ys) ≡ length xs
+pub points_long : (xs ys : List ℕ) → length xs ≡ length ys → length (points_of xs ys) ≡ length xs
 points_long [] ys same = refl
 points_long (x ∷ xs) [] same = absurd (omega (arith, same))
 points_long (x ∷ xs) (y ∷ ys) same = omega (arith, points_long xs ys (omega (arith, same)))
@@ -44,7 +44,8 @@ module _ (T : TreeValue) (path : List Step) where
       ]
 
   module _ (G : Sheet) (l : Least) (least : IsLeast T G path l) where
-    at_leaf : (i : ℕ) → point_at (low_points l) i ≡ record { x = get_or l.xs (i - 1) 0; y = get_or l.ys (i - 1) 0 }
+    -- the low point of a leaf
+    pub at_leaf : (i : ℕ) → point_at (low_points l) i ≡ record { x = get_or l.xs (i - 1) 0; y = get_or l.ys (i - 1) 0 }
     at_leaf i = point_there l.xs l.ys (i - 1) (omega (arith, least.xs_each, least.ys_each))
 
     pub solved_valid : IsNext T path None → l.forced < most_number → Valid T G 1 l.forced (low_points l)

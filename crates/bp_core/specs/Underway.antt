@@ -19,11 +19,16 @@ pub record IsLeft (T : TreeValue) (G : Sheet) (side : ℕ) (t : Task) : Type 0 w
   pub no_less : side ≤ t.bound
   pub no_more : (u : ℕ) → IsOpeningSide T G u → t.bound ≤ u
 
+-- a record's branch was judged against no more than the side that its task had to beat
+abbrev pub IsGiven : Record → Type 0
+IsGiven r = r.bound ≤ r.given
+
 pub record IsUnderway (T : TreeValue) (G : Sheet) (B : ℕ) (Z : Settled) : Type 0 where
   pub balanced : IsBalanced T G Z.records Z.left
   pub tickets : AreSame (map (λ (r : Record). r.ticket) Z.records) (range_with_len 0 Z.examined)
   pub within_budget : Z.examined ≤ B
   pub sound : All (IsSound T G Z.side) Z.records
+  pub given : All IsGiven Z.records
   pub least : IsLeastFound T G Z.side Z.records
   pub valid : Valid T G 1 Z.side Z.points
   pub left : All (IsLeft T G Z.side) Z.left

@@ -35,6 +35,7 @@ module _ (T : TreeValue) (G : Sheet) (side : ℕ) (points : List Point) (opening
     tickets = λ h. refl;
     within_budget = omega arith;
     sound = λ k d less. absurd (omega (arith, less));
+    given = λ k d less. absurd (omega (arith, less));
     least = record {
       opening_side = side;
       is_opening_side = record { opening = points; is_opening = opening; is_side = is };

@@ -14,6 +14,7 @@ module _ (T : TreeValue) (G : Sheet) (B C : ℕ) (Z : Settled) (way : IsUnderway
     tickets = way.tickets;
     within_budget = within;
     sound = way.sound;
+    given = way.given;
     least = way.least;
     valid = way.valid;
     left = way.left;

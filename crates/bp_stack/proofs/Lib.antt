@@ -1,7 +1,5 @@
 mod Beginnings
 mod Ended
-mod Forced
 mod Lists
-mod Pushed
 mod Small
 mod Turned

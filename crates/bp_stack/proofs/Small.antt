@@ -1,11 +1,10 @@
--- The opening's side is a number of a document, and a path that splits has room for a step.
-use Rattle.std.proofs.Common.{◌≡◌, inl, inr, ℕ, zero, suc, ◌+◌, ◌-◌, ◌*◌, ◌/◌, ◌<◌, ◌≤◌, List, [], ◌∷◌, length, get_or, sym, subst, arith}
-use Rattle.std.proofs.Math.Nat.{mul-le-mul}
+-- The opening's side is a number of a document.
+use Rattle.std.proofs.Common.{◌≡◌, inl, inr, ℕ, zero, suc, ◌+◌, ◌-◌, ◌*◌, ◌<◌, ◌≤◌, List, [], ◌∷◌, length, get_or, sym, subst, arith}
 use Rattle.std.proofs.lemmas.Bool.{cases_eq, cases_lt}
 use Rattle.bp_base.specs.declared.point.Point.{Point}
 use Rattle.bp_base.specs.declared.point.Sheet.{Sheet}
 use Rattle.bp_base.specs.declared.point.Sheet.TheVariants.{Square, Strip}
-use Rattle.bp_base.specs.Limits.{most_number, most_leaves}
+use Rattle.bp_base.specs.Limits.{most_number}
 use Rattle.bp_base.specs.Point.{origin, point_at, gap}
 use Rattle.bp_base.specs.Tree.{TreeValue, IsTree, leaf_count, leaf_node}
 use Rattle.bp_metric.specs.Distance.{leaf_dist, most_distance}
@@ -71,10 +70,3 @@ module _ (T : TreeValue) (t : IsTree T) (G : Sheet) (P : List Point) (is : IsOpe
 
 pub opening_small : (T : TreeValue) → IsTree T → (G : Sheet) (u : ℕ) → IsOpeningSide T G u → u ≤ most_number
 opening_small T t G u side = omega (arith, side.is_side, side_small T t G side.opening side.is_opening)
-
--- 32 leaves have 496 pairs
-pub pairs_few : (n : ℕ) → n ≤ most_leaves → n * (n - 1) / 2 ≤ 496
-pairs_few n few =
-    let less : n - 1 ≤ 31 = omega arith in
-    let product : n * (n - 1) ≤ 32 * 31 = mul-le-mul few less in
-    omega (arith, product)

@@ -1,45 +1,43 @@
 -- A branch in hand is examined: what holds of the search before still holds with its record and what follows of it.
-use Rattle.std.proofs.Common.{◌≡◌, ◌⊎◌, inl, inr, ℕ, ◌+◌, ◌<◌, ◌≤◌, min, List, [], ◌∷◌, ◌++◌, reverse, length, get_or, All, Any, refl, sym, ◌∙◌, subst, arith}
+use Rattle.std.proofs.Common.{◌≡◌, ◌⊎◌, inl, inr, ℕ, ◌+◌, ◌≤◌, min, List, [], ◌∷◌, ◌++◌, reverse, get_or, All, Any, Option, None, Some, MatchOption, refl, sym, ◌∙◌, subst, arith}
 use Rattle.std.specs.List.{Contains}
-use Rattle.std.proofs.lemmas.List.{append-nil, length_push, get_or_default}
+use Rattle.std.proofs.lemmas.List.{get_or_default}
 use Rattle.std.proofs.lemmas.List.Elements.{All-append, All-map, All-push}
 use Rattle.std.proofs.lemmas.List.Quantifiers.{Any-push}
 use Rattle.bp_base.specs.declared.path.Choice.{Choice}
-use Rattle.bp_base.specs.declared.path.Choice.TheVariants.{Left}
 use Rattle.bp_base.specs.declared.path.Pair.{Pair}
 use Rattle.bp_base.specs.declared.path.Step.{Step}
 use Rattle.bp_base.specs.declared.chain.Claim.{Claim}
+use Rattle.bp_base.specs.declared.point.Placement.{Placement}
 use Rattle.bp_base.specs.declared.point.Point.{Point}
 use Rattle.bp_base.specs.declared.point.Sheet.{Sheet}
-use Rattle.bp_base.specs.declared.record.Least.{Least}
-use Rattle.bp_base.specs.declared.record.Outcome.{Outcome}
-use Rattle.bp_base.specs.declared.record.Outcome.TheVariants.{Closed as AtBound, Cyclic, Solved, Split as Parted}
 use Rattle.bp_base.specs.declared.record.Record.{Record}
 use Rattle.bp_base.specs.declared.record.RecordKind.{RecordKind}
 use Rattle.bp_base.specs.declared.record.RecordKind.TheVariants.{Closed, Split}
 use Rattle.bp_base.specs.declared.record.Settled.{Settled}
 use Rattle.bp_base.specs.declared.record.Task.{Task}
 use Rattle.bp_base.specs.Bags.{AreSame}
-use Rattle.bp_base.specs.Limits.{most_number, most_steps}
-use Rattle.bp_base.specs.Tree.{TreeValue, IsTree, leaf_count}
+use Rattle.bp_base.specs.Limits.{most_number}
+use Rattle.bp_base.specs.Tree.{TreeValue, IsTree}
 use Rattle.bp_base.proofs.Bags.{sum_by-map}
 use Rattle.bp_metric.specs.Choices.{allowed}
-use Rattle.bp_metric.specs.Coordinates.{IsForced, IsLeast, IsShown}
+use Rattle.bp_metric.specs.Coordinates.{IsForced, IsShown}
 use Rattle.bp_metric.specs.Next.{IsNextPair}
 use Rattle.bp_metric.specs.Records.{IsJudged, IsSound, children, children_of, paths_left}
 use Rattle.bp_metric.specs.Refutation.{extended}
 use Rattle.bp_metric.specs.Stated.{IsInner, IsStatedFor}
 use Rattle.bp_metric.specs.Valid.{Valid}
-use Rattle.bp_branch.specs.Branches.{IsBranch, low_points}
-use Rattle.bp_branch.specs.Outcomes.{IsClosed, IsOutcome, IsSolved, IsSplit}
-use Rattle.bp_branch.proofs.Picked.{branch_short, child_stated, longer_branch, picked_branch, stated_picked}
-use Rattle.bp_branch.proofs.Solved.{solved_valid}
+use Rattle.bp_branch.specs.Branches.{IsBranch}
+use Rattle.bp_branch.specs.Outcomes.{IsClosed, IsSolved, IsSplit}
+use Rattle.bp_branch.proofs.Picked.{child_stated, picked_branch, stated_picked}
 use Rattle.bp_core.specs.Settled.{Solves}
-use Rattle.bp_core.specs.Underway.{IsLeft}
-use Rattle.bp_stack.specs.Turns.{Follows, IsOnItsWay, IsTaken, child, tasks_of}
-use Rattle.bp_stack.proofs.Forced.{one_forced}
+use Rattle.bp_core.specs.Underway.{IsGiven, IsLeft}
+use Rattle.bp_turn.specs.declared.examining.Turn.{Turn}
+use Rattle.bp_turn.specs.Turns.{IsFound, IsTurn, child, tasks_of}
+use Rattle.bp_turn.proofs.Forced.{one_forced}
+use Rattle.bp_stack.specs.Turns.{IsOnItsWay, IsTaken, followed}
 use Rattle.bp_stack.proofs.Lists.{all_front, all_last, all_reverse, any_front, any_push_cases, balanced_more, same_reverse, tickets_more}
-use Rattle.bp_stack.proofs.Small.{opening_small, pairs_few}
+use Rattle.bp_stack.proofs.Small.{opening_small}
 
 module _ (T : TreeValue) (G : Sheet) where
   -- where the side falls, records stay sound and branches left stay so
@@ -79,30 +77,12 @@ module _ (T : TreeValue) (G : Sheet) (t : IsTree T) (Z : Settled) (path : List S
   pub taken_branch : IsBranch T path
   taken_branch = picked_branch T t path (stated_picked T t G u path stated)
 
-  pub taken_small : Z.side ≤ most_number
-  taken_small = omega (arith, taken.least.no_more, opening_small T t G u taken.least.is_opening_side)
+  pub taken_small : given ≤ most_number
+  taken_small = omega (arith, in_hand.no_more u taken.least.is_opening_side, opening_small T t G u taken.least.is_opening_side)
 
-  pub taken_room : (p : Pair) → IsNextPair T path p → length path < most_steps
-  taken_room p next =
-      let s : Step = record { pair = p; choice = Left } in
-      let short = branch_short T t (path ++ s ∷ []) (longer_branch T t path s taken_branch next) in
-      omega (arith, short, length_push path s, pairs_few (leaf_count T) t.leaves_few)
-
-  module _ (b : ℕ) (is_b : b ≡ min given Z.side) where
-    abbrev made_at : ℕ → RecordKind → Record
-    made_at ticket kind = record { path = path; kind = kind; ticket = ticket; given = given; bound = b }
-
+  module _ (b : ℕ) (is_b : b ≡ min Z.side given) where
     abbrev made : RecordKind → Record
-    made kind = made_at Z.examined kind
-
-    abbrev after : RecordKind → Settled → Settled
-    after kind Y = record {
-      records = Y.records ++ made_at Y.examined kind ∷ [];
-      left = Y.left;
-      side = Y.side;
-      points = Y.points;
-      examined = Y.examined + 1;
-    }
+    made kind = record { path = path; kind = kind; ticket = Z.examined; given = given; bound = b }
 
     b_is : b ≡ Z.side
     b_is = omega (arith, in_hand.no_less)
@@ -117,6 +97,7 @@ module _ (T : TreeValue) (G : Sheet) (t : IsTree T) (Z : Settled) (path : List S
       tickets = tickets_more Z.records (made kind) Z.examined taken.tickets refl;
       within_budget = omega arith;
       sound = All-push (IsSound T G side) Z.records (made kind) (sound_below T G Z.side side Z.records below taken.sound) sound;
+      given = All-push IsGiven Z.records (made kind) taken.given (omega (arith, is_b));
       least = record {
         opening_side = u;
         is_opening_side = taken.least.is_opening_side;
@@ -151,74 +132,64 @@ module _ (T : TreeValue) (G : Sheet) (t : IsTree T) (Z : Settled) (path : List S
         found_at (inl same_side) = before same_side taken.least.reached
         found_at (inr solves) = inr (Any-push (Solves T G side) Z.records (made kind) solves)
 
-    none_left : (R : List Record) (side : ℕ) (points : List Point) (n : ℕ) → IsOnItsWay T G (record { records = R; left = Z.left ++ []; side = side; points = points; examined = n }) → IsOnItsWay T G (record { records = R; left = Z.left; side = side; points = points; examined = n })
-    none_left R side points n way =
-        subst (λ (left : List Task). IsOnItsWay T G (record { records = R; left = left; side = side; points = points; examined = n })) (append-nil Z.left) way
-
     no_task : (side : ℕ) → All (IsLeft T G side) []
     no_task side k d less = absurd (omega (arith, less))
 
-    closed : (claim : Claim) → IsShown T G path claim → IsClosed T G path b → IsOnItsWay T G (after (Closed claim) Z)
+    closed : (claim : Claim) → IsShown T G path claim → IsClosed T G path b → IsOnItsWay T G (followed Z (made (Closed claim)) None [])
     closed claim shown is =
-        none_left (Z.records ++ made (Closed claim) ∷ []) Z.side Z.points (Z.examined + 1)
-        (turn_more (Closed claim) Z.side Z.points [] (omega arith) (λ h. refl) (shown, inl (λ v forced. above v forced)) (λ v solves. omega (arith, b_is, above v solves.0)) (inl refl) taken.valid (no_task Z.side))
+        turn_more (Closed claim) Z.side Z.points [] (omega arith) (λ h. refl) (shown, inl above) (λ v solves. omega (arith, b_is, above v solves.0)) (inl refl) taken.valid (no_task Z.side)
       where
         above : (v : ℕ) → IsForced T G path v → b ≤ v
         above v forced = omega (arith, is.enough, one_forced T path G v is.side forced is.forced)
 
-    solved : (claim : Claim) (side : ℕ) (l : Least) → IsShown T G path claim → IsSolved T G path b side → IsLeast T G path l → IsOnItsWay T G (after (Closed claim) (record Z { side = side; points = low_points l }))
-    solved claim side l shown is least =
-        none_left (Z.records ++ made (Closed claim) ∷ []) side (low_points l) (Z.examined + 1)
-        (turn_more (Closed claim) side (low_points l) [] (omega (arith, b_is, is.below)) (λ h. refl) (shown, inr is.no_next) (λ v solves. omega (arith, one_forced T path G v side solves.0 is.forced)) (inr (is.forced, is.no_next)) valid (no_task side))
-      where
-        same : l.forced ≡ side
-        same = one_forced T path G l.forced side least.forced is.forced
+    solved : (claim : Claim) (p : Placement) → IsShown T G path claim → IsSolved T G path b p.side → Valid T G 1 p.side p.points → IsOnItsWay T G (followed Z (made (Closed claim)) (Some p) [])
+    solved claim p shown is valid =
+        turn_more (Closed claim) p.side p.points [] (omega (arith, b_is, is.below)) (λ h. refl) (shown, inr is.no_next) (λ v solves. omega (arith, one_forced T path G v p.side solves.0 is.forced)) (inr (is.forced, is.no_next)) valid (no_task p.side)
 
-        valid : Valid T G 1 side (low_points l)
-        valid =
-            subst (λ (s : ℕ). Valid T G 1 s (low_points l)) same (solved_valid T path G l least is.no_next (omega (arith, same, is.below, b_is, taken_small)))
-
-    abbrev mine : Task
-    mine = record { path = path; bound = b }
-
-    split : (p : Pair) → IsSplit T G path b → IsNextPair T path p → IsOnItsWay T G (after (Split p) (record Z { left = Z.left ++ reverse (tasks_of mine p (allowed T G p)) }))
+    split : (p : Pair) → IsSplit T G path b → IsNextPair T path p → IsOnItsWay T G (followed Z (made (Split p)) None (tasks_of T G path b (Split p)))
     split p is next =
-        turn_more (Split p) Z.side Z.points (reverse (tasks_of mine p (allowed T G p))) (omega arith) same (inner u b_below, λ v forced. omega (arith, is.below, one_forced T path G v is.side forced is.forced)) (λ v solves. absurd (solves.1 p next.pair next.near)) (inl refl) taken.valid (all_reverse (IsLeft T G Z.side) (tasks_of mine p (allowed T G p)) tasks_left)
+        turn_more (Split p) Z.side Z.points (reverse tasks) (omega arith) same (inner u b_below, λ v forced. omega (arith, is.below, one_forced T path G v is.side forced is.forced)) (λ v solves. absurd (solves.1 p next.pair next.near)) (inl refl) taken.valid (all_reverse (IsLeft T G Z.side) tasks tasks_left)
       where
+        tasks : List Task
+        tasks = tasks_of T G path b (Split p)
+
         inner : (w : ℕ) → b ≤ w → IsInner T G w path p
         inner w most = record { forced = is.side; is_forced = is.forced; below = omega (arith, is.below, most); next = next }
 
-        same : AreSame (children T G path p) (paths_left (reverse (tasks_of mine p (allowed T G p))))
+        same : AreSame (children T G path p) (paths_left (reverse tasks))
         same h =
             let choices = allowed T G p in
             let of_task : Task → List Step = λ v. v.path in
             omega (
               arith,
               sum_by-map h (extended path p) choices,
-              sum_by-map h of_task (reverse (tasks_of mine p choices)),
-              same_reverse (tasks_of mine p choices) (λ v. h v.path),
-              sum_by-map (λ (v : Task). h v.path) (child mine p) choices,
+              sum_by-map h of_task (reverse tasks),
+              same_reverse tasks (λ v. h v.path),
+              sum_by-map (λ (v : Task). h v.path) (child path b p) choices,
             )
 
-        child_left : (c : Choice) → Contains (allowed T G p) c → IsLeft T G Z.side (child mine p c)
+        child_left : (c : Choice) → Contains (allowed T G p) c → IsLeft T G Z.side (child path b p c)
         child_left c among = record {
           stated = λ w side. child_stated T t G w path p c (in_hand.stated w side) (inner w (omega (arith, is_b, in_hand.no_more w side))) among;
           no_less = omega (arith, b_is);
           no_more = λ w side. omega (arith, is_b, in_hand.no_more w side);
         }
 
-        tasks_left : All (IsLeft T G Z.side) (tasks_of mine p (allowed T G p))
-        tasks_left = All-map (IsLeft T G Z.side) (child mine p) (allowed T G p) (λ k d less. child_left (get_or (allowed T G p) k d) (k, less, get_or_default (allowed T G p) k (get_or (allowed T G p) k d) d less))
+        tasks_left : All (IsLeft T G Z.side) tasks
+        tasks_left = All-map (IsLeft T G Z.side) (child path b p) (allowed T G p) (λ k d less. child_left (get_or (allowed T G p) k d) (k, less, get_or_default (allowed T G p) k (get_or (allowed T G p) k d) d less))
 
-    carried : (kind to : RecordKind) (Y X : Settled) → kind ≡ to → Y ≡ X → IsOnItsWay T G (after to X) → IsOnItsWay T G (after kind Y)
-    carried kind to Y X same_kind same way =
-        subst (λ (k : RecordKind). IsOnItsWay T G (after k Y)) (sym same_kind) (subst (λ (W : Settled). IsOnItsWay T G (after to W)) (sym same) way)
+    found : (kind : RecordKind) (placement : Option Placement) → IsFound T G path b kind placement → MatchOption placement (1 ≤ 1) (λ (p : Placement). Valid T G 1 p.side p.points) → IsOnItsWay T G (followed Z (made kind) placement (tasks_of T G path b kind))
+    found (Split p) None is valid = split p is.0 is.1
+    found (Split p) (Some placement) is valid = absurd is
+    found (Closed claim) None is valid = closed claim is.0 is.1
+    found (Closed claim) (Some placement) is valid = solved claim placement is.0 is.1 valid
 
-    pub turned : (o : Outcome) (l : Least) (kind : RecordKind) (Y : Settled) → IsOutcome T G path b o → IsLeast T G path l → Follows T G mine l o kind Z Y → IsOnItsWay T G (after kind Y)
-    turned (Cyclic claim) l kind Y outcome least follows = absurd follows
-    turned (AtBound claim) l kind Y outcome least follows =
-        carried kind (Closed claim) Y Z follows.0 follows.1 (closed claim outcome.0 outcome.1)
-    turned (Solved side claim) l kind Y outcome least follows =
-        carried kind (Closed claim) Y (record Z { side = side; points = low_points l }) follows.0 follows.1 (solved claim side l outcome.0 outcome.1 least)
-    turned (Parted p) l kind Y outcome least follows =
-        carried kind (Split p) Y (record Z { left = Z.left ++ reverse (tasks_of mine p (allowed T G p)) }) follows.0 follows.1 (split p outcome.0 outcome.1)
+  -- the search is on its way after a turn
+  pub turned : (tasks : List Task) (turn : Turn) → IsTurn T G task Z.side Z.examined tasks turn → MatchOption turn.placement (1 ≤ 1) (λ (p : Placement). Valid T G 1 p.side p.points) → IsOnItsWay T G (followed Z turn.record turn.placement tasks)
+  turned tasks turn is valid =
+      let b = turn.record.bound in
+      let kind = turn.record.kind in
+      let same : turn.record ≡ record { path = path; kind = kind; ticket = Z.examined; given = given; bound = b } =
+      λ i. record { path = is.path i; kind = kind; ticket = is.ticket i; given = is.given i; bound = b } in
+      subst (λ (r : Record). IsOnItsWay T G (followed Z r turn.placement tasks)) (sym same)
+      (subst (λ (ts : List Task). IsOnItsWay T G (followed Z (record { path = path; kind = kind; ticket = Z.examined; given = given; bound = b }) turn.placement ts)) (sym is.children) (found b is.bound kind turn.placement is.found valid))

@@ -2,7 +2,6 @@
 #![tactic(auto)]
 
 mod beginning;
-mod children;
 mod searching;
 #[cfg(test)]
 mod tests;

@@ -1,14 +1,13 @@
 // The search.
-ghost use Rattle.std.specs.Prelude.{◌≡◌, IfOk};
+ghost use Rattle.std.specs.Prelude.{IfOk};
 ghost use Rattle.bp_metric.specs.Floor.{IsFloorSide};
 ghost use Rattle.bp_core.specs.Settled.{IsSettled};
 ghost use Rattle.bp_core.specs.Underway.{IsUnderway};
 
 use crate::turns::work_on;
-use bp_base::{NoMemory, Settled};
-use bp_branch::PairOrder;
+use bp_base::{NoMemory, Sequence, Settled};
 use bp_metric::Metric;
-use bp_warm::Warm;
+use bp_turn::Examiner;
 use std::alloc::Global;
 
 /// Works a search off as a stack: the last branch left is examined next, and each takes the next number as its ticket. It ends
@@ -27,12 +26,21 @@ pub fn search(
     ensures underway { IfOk result (λ Z. IsUnderway metric.now.tree metric.now.sheet budget Z) }
 {
     let mut search = start;
-    let order = PairOrder::of(alloc, metric)?;
-    let mut warm = Warm::open(alloc, metric)?;
+    let mut examiner = Examiner::open(alloc, metric)?;
+    let mut children = Sequence::new(alloc);
     while search.side > floor && search.examined < budget {
         match search.left.pop() {
             None => return Ok(search),
-            Some(task) => work_on(alloc, metric, &order, &mut warm, &mut search, task)?,
+            Some(task) => {
+                work_on(
+                    alloc,
+                    metric,
+                    &mut examiner,
+                    &mut children,
+                    &mut search,
+                    task,
+                )?;
+            }
         }
     }
     Ok(search)

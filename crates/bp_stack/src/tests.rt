@@ -7,6 +7,7 @@ ghost use Rattle.bp_core.specs.Underway.{IsUnderway};
 
 use crate::{begin, search};
 use bp_base::{Name, NoMemory, Point, Settled, Sheet, Tree};
+use bp_core::law_of_left;
 use bp_floor::floor;
 use bp_metric::Metric;
 use bp_opening::open;
@@ -99,6 +100,7 @@ fn ends(
     let start = begun(alloc, &metric)?;
     let side = floor_side(alloc, &metric)?;
     let found = search(alloc, &metric, start, side, budget)?;
+    law_of_left(&metric);
     is_wanted(rt, &found, wanted);
     Ok(())
 }

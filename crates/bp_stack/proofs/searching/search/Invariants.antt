@@ -1,12 +1,11 @@
-use Rattle.std.proofs.Common.{◌≡◌, ◌-◌}
+use Rattle.std.proofs.Common.{◌≡◌, ◌-◌, []}
 use Rattle.bp_core.specs.Underway.{IsUnderway}
-use Rattle.bp_stack.specs.Turns.{IsAt}
 use Rattle.bp_stack.proofs.searching.search.Given as goal
 
 abbrev pub invariant-loop-search : goal.invariant-loop-search
 invariant-loop-search l = record {
-  warm : l.warm.metric ≡ l.metric;
-  at : IsAt l.warm.path l.search.records;
+  examiner : l.examiner ≡ l.metric;
+  empty : l.children ≡ [];
   underway : IsUnderway l.metric.tree l.metric.sheet l.budget l.search;
 }
 

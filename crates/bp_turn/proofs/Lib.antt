@@ -1,0 +1,4 @@
+pub mod Rooms
+mod Beginnings
+pub mod Forced
+mod Turned
