@@ -1,0 +1,6 @@
+//! Pieces and holes of the region of an edge.
+#![tactic(auto)]
+
+mod laws;
+
+pub use laws::law_of_report;
