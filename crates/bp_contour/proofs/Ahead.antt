@@ -73,7 +73,7 @@ module _ (In : ℕ → ℕ → Type 0) where
     ],
   )
 
-  -- a walk that can't go on has gone a run
+  -- a tour that can't go on has gone a run
   pub reached_end : (w : Way) (p q : Point) → Begins In w p → Reaches In w p q → (Leaves In w q → ⊥) → RunBy In w p q
   reached_end East p q b r stop =
       let stops : GoesEast In q.x p.y → ⊥ = λ h. stop (subst (λ (m : ℕ). GoesEast In q.x m) r.0 h) in (

@@ -1,4 +1,4 @@
--- Closed walks over all runs are the contours.
+-- Closed tours over all runs are the contours.
 use Rattle.std.proofs.Common.{◌≡◌, ◌≢◌, ◌⊎◌, ℕ, zero, suc, ◌+◌, ◌-◌, ◌<◌, ◌≤◌, ◌↔◌, ◌==◌, Bool, List, [], ◌∷◌, length, get_or, map, if◌then◌else◌, refl, sym, ◌∙◌, ap, subst, arith, inl, inr}
 use Rattle.std.proofs.lemmas.Bool.{cases_eq, cases_order, eq-eqb, ne_eqb}
 use Rattle.std.proofs.lemmas.List.{get_or_default, length-map}
@@ -10,7 +10,7 @@ use Rattle.bp_regions.specs.Contours.{AreContours, ComesBefore, GoesOnce, IsPlac
 use Rattle.bp_regions.specs.Runs.{IsAfter, IsRun}
 use Rattle.bp_contour.specs.Listed.{AreRuns, Follows, StandsBefore, run_at}
 use Rattle.bp_contour.specs.Ways.{RunBy, number_of}
-use Rattle.bp_contour.specs.Walks.{AreWalks, Closes, walk_at}
+use Rattle.bp_contour.specs.Tours.{AreTours, Closes, tour_at}
 use Rattle.bp_contour.proofs.Corners.{same_end}
 use Rattle.bp_contour.proofs.Directed.{one_ahead, run_of, same_way, way_of}
 use Rattle.bp_contour.proofs.Followed.{one_place}
@@ -24,32 +24,32 @@ get_or-map_at f [] i d = refl
 get_or-map_at f (x ∷ xs) zero d = refl
 get_or-map_at f (x ∷ xs) (suc i) d = get_or-map_at f xs i d
 
--- the place after k, round a walk
+-- the place after k, round a tour
 abbrev round_from : List ℕ → ℕ → ℕ
-round_from walk k = if k + 1 == length walk then 0 else k + 1
+round_from tour k = if k + 1 == length tour then 0 else k + 1
 
-round_at_end : (walk : List ℕ) (k : ℕ) → k + 1 ≡ length walk → round_from walk k ≡ 0
-round_at_end walk k same =
-    ap (λ (b : Bool). if b then 0 else k + 1) (eq-eqb (k + 1) (length walk) same)
+round_at_end : (tour : List ℕ) (k : ℕ) → k + 1 ≡ length tour → round_from tour k ≡ 0
+round_at_end tour k same =
+    ap (λ (b : Bool). if b then 0 else k + 1) (eq-eqb (k + 1) (length tour) same)
 
-round_within : (walk : List ℕ) (k : ℕ) → k + 1 ≢ length walk → round_from walk k ≡ k + 1
-round_within walk k apart =
-    ap (λ (b : Bool). if b then 0 else k + 1) (ne_eqb (k + 1) (length walk) apart)
+round_within : (tour : List ℕ) (k : ℕ) → k + 1 ≢ length tour → round_from tour k ≡ k + 1
+round_within tour k apart =
+    ap (λ (b : Bool). if b then 0 else k + 1) (ne_eqb (k + 1) (length tour) apart)
 
-round_in : (walk : List ℕ) (k : ℕ) → k < length walk → round_from walk k < length walk
-round_in walk k less = elim (cases_eq (k + 1) (length walk)) [
-  | inl same ↦ omega (arith, round_at_end walk k same, less)
-  | inr apart ↦ omega (arith, round_within walk k apart, less, apart)
+round_in : (tour : List ℕ) (k : ℕ) → k < length tour → round_from tour k < length tour
+round_in tour k less = elim (cases_eq (k + 1) (length tour)) [
+  | inl same ↦ omega (arith, round_at_end tour k same, less)
+  | inr apart ↦ omega (arith, round_within tour k apart, less, apart)
 ]
 
--- a closed walk goes on everywhere
-goes_round : (After : ℕ → ℕ → Type 0) (start : ℕ) (walk : List ℕ) → Closes After start walk → (k : ℕ) → k < length walk → After (get_or walk k 0) (get_or walk (round_from walk k) 0)
-goes_round After start walk c k less = elim (cases_eq (k + 1) (length walk)) [
+-- a closed tour goes on everywhere
+goes_round : (After : ℕ → ℕ → Type 0) (start : ℕ) (tour : List ℕ) → Closes After start tour → (k : ℕ) → k < length tour → After (get_or tour k 0) (get_or tour (round_from tour k) 0)
+goes_round After start tour c k less = elim (cases_eq (k + 1) (length tour)) [
   | inl same ↦
-      let last : length walk - 1 ≡ k = omega (arith, same) in
-      subst (λ (m : ℕ). After (get_or walk k 0) (get_or walk m 0)) (sym (round_at_end walk k same)) (subst (λ (p : ℕ). After (get_or walk k 0) p) (sym c.goes.first) (subst (λ (m : ℕ). After (get_or walk m 0) start) last c.back))
+      let last : length tour - 1 ≡ k = omega (arith, same) in
+      subst (λ (m : ℕ). After (get_or tour k 0) (get_or tour m 0)) (sym (round_at_end tour k same)) (subst (λ (p : ℕ). After (get_or tour k 0) p) (sym c.goes.first) (subst (λ (m : ℕ). After (get_or tour m 0) start) last c.back))
   | inr apart ↦
-      subst (λ (m : ℕ). After (get_or walk k 0) (get_or walk m 0)) (sym (round_within walk k apart)) (c.goes.steps k (omega (arith, less, apart)))
+      subst (λ (m : ℕ). After (get_or tour k 0) (get_or tour m 0)) (sym (round_within tour k apart)) (c.goes.steps k (omega (arith, less, apart)))
 ]
 
 module _ (In Held : ℕ → ℕ → Type 0) (X Y : ℕ → ℕ) (w h side : ℕ) (columns : AreSteps X w side) (rows : AreSteps Y h side) (same : (a b x y : ℕ) → Lies X w a x → Lies Y h b y → (In x y ↔ Held a b)) (In_in : (x y : ℕ) → In x y → (x < side) × (y < side)) (Held_in : (a b : ℕ) → Held a b → (a < w) × (b < h)) (rs : List Run) (are : AreRuns Held rs) where
@@ -124,103 +124,103 @@ module _ (In Held : ℕ → ℕ → Type 0) (X Y : ℕ → ℕ) (w h side : ℕ)
   ]
 
   -- One loop.
-  module _ (walk : List ℕ) (c : Closes (Follows Held rs) (get_or walk 0 0) walk) where
+  module _ (tour : List ℕ) (c : Closes (Follows Held rs) (get_or tour 0 0) tour) where
     loop : List Point
-    loop = map from walk
+    loop = map from tour
 
-    goes_on : (k : ℕ) → k < length walk → Follows Held rs (get_or walk k 0) (get_or walk (round_from walk k) 0)
-    goes_on = goes_round (Follows Held rs) (get_or walk 0 0) walk c
+    goes_on : (k : ℕ) → k < length tour → Follows Held rs (get_or tour k 0) (get_or tour (round_from tour k) 0)
+    goes_on = goes_round (Follows Held rs) (get_or tour 0 0) tour c
 
-    in_list : (k : ℕ) → k < length walk → get_or walk k 0 < length rs
+    in_list : (k : ℕ) → k < length tour → get_or tour k 0 < length rs
     in_list k less = (goes_on k less).from
 
-    long : length loop ≡ length walk
+    long : length loop ≡ length tour
     unfolding loop
-    long = length-map walk from
+    long = length-map tour from
 
-    at_is : (k : ℕ) → k < length walk → turn_at loop k ≡ from (get_or walk k 0)
+    at_is : (k : ℕ) → k < length tour → turn_at loop k ≡ from (get_or tour k 0)
     unfolding loop
     at_is k less =
-        get_or_default (map from walk) k origin (from 0) (omega (arith, length-map walk from, less)) ∙ get_or-map_at from walk k 0
+        get_or_default (map from tour) k origin (from 0) (omega (arith, length-map tour from, less)) ∙ get_or-map_at from tour k 0
 
-    next_is : (k : ℕ) → next_place loop k ≡ round_from walk k
+    next_is : (k : ℕ) → next_place loop k ≡ round_from tour k
     next_is k = ap (λ (n : ℕ). if k + 1 == n then 0 else k + 1) long
 
-    after_is : (k : ℕ) → k < length walk → turn_after loop k ≡ to (get_or walk k 0)
+    after_is : (k : ℕ) → k < length tour → turn_after loop k ≡ to (get_or tour k 0)
     unfolding from to
     after_is k less =
-        ap (turn_at loop) (next_is k) ∙ at_is (round_from walk k) (round_in walk k less) ∙ ap sc (goes_on k less).begins
+        ap (turn_at loop) (next_is k) ∙ at_is (round_from tour k) (round_in tour k less) ∙ ap sc (goes_on k less).begins
 
-    leg_is : (k : ℕ) → k < length walk → IsRun In (turn_at loop k) (turn_after loop k)
+    leg_is : (k : ℕ) → k < length tour → IsRun In (turn_at loop k) (turn_after loop k)
     leg_is k less =
-        let i = get_or walk k 0 in
+        let i = get_or tour k 0 in
         subst (λ (p : Point). IsRun In p (turn_after loop k)) (sym (at_is k less)) (subst (IsRun In (from i)) (sym (after_is k less)) (run_of In (run_at rs i).way (from i) (to i) (real i (in_list k less))))
 
-    turn_is : (k : ℕ) → k < length walk → IsAfter In (turn_at loop k) (turn_after loop k) (turn_after loop (next_place loop k))
+    turn_is : (k : ℕ) → k < length tour → IsAfter In (turn_at loop k) (turn_after loop k) (turn_after loop (next_place loop k))
     unfolding from to sc
     turn_is k less =
-        let i = get_or walk k 0 in
-        let m = round_from walk k in
-        let third : turn_after loop (next_place loop k) ≡ to (get_or walk m 0) = ap (turn_after loop) (next_is k) ∙ after_is m (round_in walk k less) in
-        subst (λ (p : Point). IsAfter In p (turn_after loop k) (turn_after loop (next_place loop k))) (sym (at_is k less)) (subst (λ (p : Point). IsAfter In (from i) p (turn_after loop (next_place loop k))) (sym (after_is k less)) (subst (IsAfter In (from i) (to i)) (sym third) (after_scaled In Held X Y w h side columns rows same In_in Held_in rs are i (get_or walk m 0) (goes_on k less))))
+        let i = get_or tour k 0 in
+        let m = round_from tour k in
+        let third : turn_after loop (next_place loop k) ≡ to (get_or tour m 0) = ap (turn_after loop) (next_is k) ∙ after_is m (round_in tour k less) in
+        subst (λ (p : Point). IsAfter In p (turn_after loop k) (turn_after loop (next_place loop k))) (sym (at_is k less)) (subst (λ (p : Point). IsAfter In (from i) p (turn_after loop (next_place loop k))) (sym (after_is k less)) (subst (IsAfter In (from i) (to i)) (sym third) (after_scaled In Held X Y w h side columns rows same In_in Held_in rs are i (get_or tour m 0) (goes_on k less))))
 
   -- All loops.
-  module _ (marks : List Bool) (walks : List (List ℕ)) (all : AreWalks (Follows Held rs) (length rs) marks walks) where
+  module _ (marks : List Bool) (tours : List (List ℕ)) (all : AreTours (Follows Held rs) (length rs) marks tours) where
     loops : List (List Point)
-    loops = map (map from) walks
+    loops = map (map from) tours
 
-    loop_is : (i : ℕ) → map from (walk_at walks i) ≡ loop_at loops i
+    loop_is : (i : ℕ) → map from (tour_at tours i) ≡ loop_at loops i
     unfolding loops
-    loop_is i = sym (get_or-map_at (map from) walks i [])
+    loop_is i = sym (get_or-map_at (map from) tours i [])
 
-    count : length loops ≡ length walks
+    count : length loops ≡ length tours
     unfolding loops
-    count = length-map walks (map from)
+    count = length-map tours (map from)
 
-    -- what holds at each place of each walk's loop
-    each : (P : List Point → ℕ → Type 0) → ((i : ℕ) → i < length walks → (k : ℕ) → k < length (walk_at walks i) → P (map from (walk_at walks i)) k) → (i k : ℕ) → IsPlace loops i k → P (loop_at loops i) k
+    -- what holds at each place of each tour's loop
+    each : (P : List Point → ℕ → Type 0) → ((i : ℕ) → i < length tours → (k : ℕ) → k < length (tour_at tours i) → P (map from (tour_at tours i)) k) → (i k : ℕ) → IsPlace loops i k → P (loop_at loops i) k
     each P holds i k place =
-        let i_in : i < length walks = omega (arith, place.0, count) in
-        let l_in : k < length (map from (walk_at walks i)) = subst (λ (l : List Point). k < length l) (sym (loop_is i)) place.1 in
-        subst (λ (l : List Point). P l k) (loop_is i) (holds i i_in k (omega (arith, l_in, length-map (walk_at walks i) from)))
+        let i_in : i < length tours = omega (arith, place.0, count) in
+        let l_in : k < length (map from (tour_at tours i)) = subst (λ (l : List Point). k < length l) (sym (loop_is i)) place.1 in
+        subst (λ (l : List Point). P l k) (loop_is i) (holds i i_in k (omega (arith, l_in, length-map (tour_at tours i) from)))
 
-    place_of : (i k : ℕ) → i < length walks → k < length (walk_at walks i) → IsPlace loops i k
+    place_of : (i k : ℕ) → i < length tours → k < length (tour_at tours i) → IsPlace loops i k
     place_of i k i_in k_in = (
       omega (arith, i_in, count),
-      subst (λ (l : List Point). k < length l) (loop_is i) (omega (arith, k_in, length-map (walk_at walks i) from)),
+      subst (λ (l : List Point). k < length l) (loop_is i) (omega (arith, k_in, length-map (tour_at tours i) from)),
     )
 
-    in_walk : (i k : ℕ) → IsPlace loops i k → (i < length walks) × (k < length (walk_at walks i))
-    in_walk i k place =
-        let l_in : k < length (map from (walk_at walks i)) = subst (λ (l : List Point). k < length l) (sym (loop_is i)) place.1 in
-        (omega (arith, place.0, count), omega (arith, l_in, length-map (walk_at walks i) from))
+    in_tour : (i k : ℕ) → IsPlace loops i k → (i < length tours) × (k < length (tour_at tours i))
+    in_tour i k place =
+        let l_in : k < length (map from (tour_at tours i)) = subst (λ (l : List Point). k < length l) (sym (loop_is i)) place.1 in
+        (omega (arith, place.0, count), omega (arith, l_in, length-map (tour_at tours i) from))
 
     run_here : ℕ → ℕ → ℕ
-    run_here i k = get_or (walk_at walks i) k 0
+    run_here i k = get_or (tour_at tours i) k 0
 
-    here_in : (i k : ℕ) → i < length walks → k < length (walk_at walks i) → run_here i k < length rs
+    here_in : (i k : ℕ) → i < length tours → k < length (tour_at tours i) → run_here i k < length rs
     unfolding run_here
-    here_in i k i_in k_in = in_list (walk_at walks i) (all.closed i i_in) k k_in
+    here_in i k i_in k_in = in_list (tour_at tours i) (all.closed i i_in) k k_in
 
-    from_here : (i k : ℕ) → i < length walks → k < length (walk_at walks i) → turn_at (loop_at loops i) k ≡ from (run_here i k)
+    from_here : (i k : ℕ) → i < length tours → k < length (tour_at tours i) → turn_at (loop_at loops i) k ≡ from (run_here i k)
     unfolding run_here loop
     from_here i k i_in k_in =
-        subst (λ (l : List Point). turn_at l k ≡ from (get_or (walk_at walks i) k 0)) (loop_is i) (at_is (walk_at walks i) (all.closed i i_in) k k_in)
+        subst (λ (l : List Point). turn_at l k ≡ from (get_or (tour_at tours i) k 0)) (loop_is i) (at_is (tour_at tours i) (all.closed i i_in) k k_in)
 
-    to_here : (i k : ℕ) → i < length walks → k < length (walk_at walks i) → turn_after (loop_at loops i) k ≡ to (run_here i k)
+    to_here : (i k : ℕ) → i < length tours → k < length (tour_at tours i) → turn_after (loop_at loops i) k ≡ to (run_here i k)
     unfolding run_here loop
     to_here i k i_in k_in =
-        subst (λ (l : List Point). turn_after l k ≡ to (get_or (walk_at walks i) k 0)) (loop_is i) (after_is (walk_at walks i) (all.closed i i_in) k k_in)
+        subst (λ (l : List Point). turn_after l k ≡ to (get_or (tour_at tours i) k 0)) (loop_is i) (after_is (tour_at tours i) (all.closed i i_in) k k_in)
 
     -- two places of one run are one
-    one_time : (i k j m : ℕ) → i < length walks → k < length (walk_at walks i) → j < length walks → m < length (walk_at walks j) → run_here i k ≡ run_here j m → (j ≡ i) × (m ≡ k)
+    one_time : (i k j m : ℕ) → i < length tours → k < length (tour_at tours i) → j < length tours → m < length (tour_at tours j) → run_here i k ≡ run_here j m → (j ≡ i) × (m ≡ k)
     unfolding run_here
     one_time i k j m i_in k_in j_in m_in e = elim (cases_order i j) [
       | inr (inl less) ↦ absurd (all.apart i j k m less j_in k_in m_in e)
       | inr (inr more) ↦ absurd (all.apart j i m k more i_in m_in k_in (sym e))
       | inl one ↦
-          let m_here : m < length (walk_at walks i) = subst (λ (n : ℕ). m < length (walk_at walks n)) (sym one) m_in in
-          let e_here : get_or (walk_at walks i) k 0 ≡ get_or (walk_at walks i) m 0 = e ∙ ap (λ (n : ℕ). get_or (walk_at walks n) m 0) (sym one) in (
+          let m_here : m < length (tour_at tours i) = subst (λ (n : ℕ). m < length (tour_at tours n)) (sym one) m_in in
+          let e_here : get_or (tour_at tours i) k 0 ≡ get_or (tour_at tours i) m 0 = e ∙ ap (λ (n : ℕ). get_or (tour_at tours n) m 0) (sym one) in (
             sym one,
             elim (cases_order k m) [
               | inl is ↦ sym is
@@ -244,35 +244,35 @@ module _ (In Held : ℕ → ℕ → Type 0) (X Y : ℕ → ℕ) (w h side : ℕ)
             to = to_here i k i_in k_in ∙ ap to at ∙ r_to;
           };
           only = λ j m g.
-              let (j_in, m_in) = in_walk j m g.place in
+              let (j_in, m_in) = in_tour j m g.place in
               let begins : from (run_here i k) ≡ from (run_here j m) = ap from at ∙ r_from ∙ sym g.from ∙ from_here j m j_in m_in in
               let ends : to (run_here i k) ≡ to (run_here j m) = ap to at ∙ r_to ∙ sym g.to ∙ to_here j m j_in m_in in
               one_time i k j m i_in k_in j_in m_in (same_place (run_here i k) (run_here j m) (here_in i k i_in k_in) (here_in j m j_in m_in) begins ends);
         }
 
-    some_here : (i : ℕ) → i < length walks → 0 < length (walk_at walks i)
+    some_here : (i : ℕ) → i < length tours → 0 < length (tour_at tours i)
     some_here i i_in = (all.closed i i_in).goes.some
 
-    least_here : (i k : ℕ) → i < length walks → k < length (walk_at walks i) → ComesBefore (from (run_here i k)) (from (run_here i 0)) → ⊥
+    least_here : (i k : ℕ) → i < length tours → k < length (tour_at tours i) → ComesBefore (from (run_here i k)) (from (run_here i 0)) → ⊥
     unfolding run_here
     least_here i k i_in k_in =
-        not_before (get_or (walk_at walks i) 0 0) (get_or (walk_at walks i) k 0) (all.least i k i_in k_in) (here_in i k i_in k_in)
+        not_before (get_or (tour_at tours i) 0 0) (get_or (tour_at tours i) k 0) (all.least i k i_in k_in) (here_in i k i_in k_in)
 
     -- the first run of a loop leads to no earlier point
-    leads_ahead : (i : ℕ) → i < length walks → ComesBefore (to (run_here i 0)) (from (run_here i 0)) → ⊥
+    leads_ahead : (i : ℕ) → i < length tours → ComesBefore (to (run_here i 0)) (from (run_here i 0)) → ⊥
     unfolding run_here from to
     leads_ahead i i_in b =
-        let walk = walk_at walks i in
-        let next = round_from walk 0 in
-        let e : to (get_or walk 0 0) ≡ from (get_or walk next 0) = sym (ap sc (goes_on walk (all.closed i i_in) 0 (some_here i i_in)).begins) in
-        least_here i next i_in (round_in walk 0 (some_here i i_in)) (subst (λ (p : Point). ComesBefore p (from (get_or walk 0 0))) e b)
+        let tour = tour_at tours i in
+        let next = round_from tour 0 in
+        let e : to (get_or tour 0 0) ≡ from (get_or tour next 0) = sym (ap sc (goes_on tour (all.closed i i_in) 0 (some_here i i_in)).begins) in
+        least_here i next i_in (round_in tour 0 (some_here i i_in)) (subst (λ (p : Point). ComesBefore p (from (get_or tour 0 0))) e b)
 
-    rise_here : (i j : ℕ) → i < j → j < length walks → ComesBefore (from (run_here i 0)) (from (run_here j 0))
+    rise_here : (i j : ℕ) → i < j → j < length tours → ComesBefore (from (run_here i 0)) (from (run_here j 0))
     unfolding run_here
     rise_here i j less j_in =
-        let i_in : i < length walks = omega (arith, less, j_in) in
-        let a = get_or (walk_at walks i) 0 0 in
-        let b = get_or (walk_at walks j) 0 0 in
+        let i_in : i < length tours = omega (arith, less, j_in) in
+        let a = get_or (tour_at tours i) 0 0 in
+        let b = get_or (tour_at tours j) 0 0 in
         let a_in : a < length rs = here_in i 0 i_in (some_here i i_in) in
         let b_in : b < length rs = here_in j 0 j_in (some_here j j_in) in
         elim (in_order a b (all.rising i j less j_in) b_in) [
@@ -285,18 +285,18 @@ module _ (In Held : ℕ → ℕ → Type 0) (X Y : ℕ → ℕ) (w h side : ℕ)
               absurd (omega (arith, all.rising i j less j_in, same_place a b a_in b_in e ends))
         ]
 
-    pub are_contours : AreContours In (map (map (λ (k : ℕ). record { x = X (run_at rs k).from.x; y = Y (run_at rs k).from.y })) walks)
+    pub are_contours : AreContours In (map (map (λ (k : ℕ). record { x = X (run_at rs k).from.x; y = Y (run_at rs k).from.y })) tours)
     unfolding loops loop from sc
     are_contours = record {
-      runs = each (λ l k. IsRun In (turn_at l k) (turn_after l k)) (λ i i_in. leg_is (walk_at walks i) (all.closed i i_in));
+      runs = each (λ l k. IsRun In (turn_at l k) (turn_after l k)) (λ i i_in. leg_is (tour_at tours i) (all.closed i i_in));
       once = gone_once;
-      after = each (λ l k. IsAfter In (turn_at l k) (turn_after l k) (turn_after l (next_place l k))) (λ i i_in. turn_is (walk_at walks i) (all.closed i i_in));
+      after = each (λ l k. IsAfter In (turn_at l k) (turn_after l k) (turn_after l (next_place l k))) (λ i i_in. turn_is (tour_at tours i) (all.closed i i_in));
       some = λ i i_in. (place_of i 0 (omega (arith, i_in, count)) (some_here i (omega (arith, i_in, count)))).1;
       least = λ i k place b.
-          let (i_in, k_in) = in_walk i k place in
+          let (i_in, k_in) = in_tour i k place in
           least_here i k i_in k_in (subst (λ (p : Point). ComesBefore p (from (run_here i 0))) (from_here i k i_in k_in) (subst (ComesBefore (turn_at (loop_at loops i) k)) (from_here i 0 i_in (some_here i i_in)) b));
       rising = λ i j less j_in.
-          let j_in' : j < length walks = omega (arith, j_in, count) in
-          let i_in' : i < length walks = omega (arith, less, j_in') in
+          let j_in' : j < length tours = omega (arith, j_in, count) in
+          let i_in' : i < length tours = omega (arith, less, j_in') in
           subst (λ (p : Point). ComesBefore p (turn_at (loop_at loops j) 0)) (sym (from_here i 0 i_in' (some_here i i_in'))) (subst (ComesBefore (from (run_here i 0))) (sym (from_here j 0 j_in' (some_here j j_in'))) (rise_here i j less j_in'));
     }

@@ -6,12 +6,12 @@ use Rattle.bp_base.specs.declared.point.Point.{Point}
 use Rattle.bp_base.specs.Tree.{IsEdge}
 use Rattle.bp_regions.specs.Cells.{Reach}
 use Rattle.bp_regions.specs.Contours.{AreContours}
-use Rattle.bp_regions.specs.Cuts.{AreTogether}
+use Rattle.bp_regions.specs.Cuts.{AreTogether, AreCutsOf}
 use Rattle.bp_regions.specs.Regions.{RegionsValue}
 use Rattle.bp_contour.specs.declared.runs.Run.{Run}
 use Rattle.bp_contour.specs.Listed.{AreRuns, Follows, run_at}
-use Rattle.bp_contour.specs.Table.{AreCutsOf, Holds, IsTable, TableValue}
-use Rattle.bp_contour.specs.Walks.{AreOnGrid, AreRound, start_of}
+use Rattle.bp_contour.specs.Table.{Holds, IsTable, TableValue}
+use Rattle.bp_contour.specs.Tours.{AreOnGrid, AreRound, start_of}
 use Rattle.bp_contour.proofs.Assembled.{are_contours}
 use Rattle.bp_contour.proofs.Listing.{run_within, some_cell}
 use Rattle.bp_contour.proofs.Scaled.{AreSteps, Lies}
@@ -52,4 +52,4 @@ module _ (R : RegionsValue) (e : ℕ) (edge : IsEdge R.tree e) (columns rows : L
 
   pub contours_exact : (rs : List Run) (loops : List (List Point)) → AreRuns (Holds C) rs → AreRound (Follows (Holds C) rs) (length rs) (start_of columns rows rs) loops → AreContours (Reach R.tree R.side R.points e) loops
   contours_exact rs loops are round =
-      subst (AreContours (Reach R.tree R.side R.points e)) (sym round.loops_are) (are_contours (Reach R.tree R.side R.points e) (Holds C) (λ m. get_or columns m 0) (λ m. get_or rows m 0) C.width C.height R.side (steps_from R X columns C.width xs table.width) (steps_from R Y rows C.height ys table.height) same_cells (λ x y r. r.cell) (held_within C) rs are round.marks round.walks round.are)
+      subst (AreContours (Reach R.tree R.side R.points e)) (sym round.loops_are) (are_contours (Reach R.tree R.side R.points e) (Holds C) (λ m. get_or columns m 0) (λ m. get_or rows m 0) C.width C.height R.side (steps_from R X columns C.width xs table.width) (steps_from R Y rows C.height ys table.height) same_cells (λ x y r. r.cell) (held_within C) rs are round.marks round.tours round.are)

@@ -12,5 +12,5 @@ mod Scaled
 mod Stretches
 mod Tables
 mod Unique
-mod Walking
+mod Touring
 mod Worked

@@ -6,7 +6,8 @@ use Rattle.std.proofs.lemmas.List.Kept.{AllPairs-from_increasing}
 use Rattle.bp_base.specs.declared.point.Axis.{Axis}
 use Rattle.bp_regions.specs.Cells.{Reach}
 use Rattle.bp_regions.specs.Regions.{RegionsValue}
-use Rattle.bp_contour.specs.Table.{AddsRow, AreCutsOf, AreRows, Holds, IsTable, TableValue, bit}
+use Rattle.bp_regions.specs.Cuts.{AreCutsOf}
+use Rattle.bp_contour.specs.Table.{AddsRow, AreRows, Holds, IsTable, TableValue, bit}
 
 -- Single bits.
 

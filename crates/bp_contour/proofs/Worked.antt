@@ -1,4 +1,4 @@
--- Runs of a worked set: two squares that touch at a corner. The walk turns left there, so the squares stay two loops.
+-- Runs of a worked set: two squares that touch at a corner. The tour turns left there, so the squares stay two loops.
 use Rattle.std.proofs.Common.{◌≡◌, ◌≢◌, ◌⊎◌, ℕ, ◌+◌, ◌-◌, ◌<◌, ◌≤◌, refl, ap, subst, arith, inl, inr}
 use Rattle.bp_base.specs.declared.point.Point.{Point}
 use Rattle.bp_regions.specs.Runs.{Below, Beside, GoesEast, GoesNorth, GoesSouth, GoesWest, IsAfter, IsRun, IsStretch, TurnsLeft}

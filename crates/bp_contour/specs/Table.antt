@@ -1,11 +1,8 @@
 -- A table of cells between cuts, and which cells of a region it holds.
 use Rattle.std.specs.Prelude.{◌≡◌, ℕ, ◌+◌, ◌-◌, ◌*◌, ◌^◌, ◌<◌, ◌↔◌, Bool, false, ◌&&◌, nat_lt, List, length, slice_index, slice_index_or, IsTrue, if◌then◌else◌}
-use Rattle.bp_base.specs.declared.point.Axis.{Axis}
 use Rattle.bp_base.specs.declared.point.Point.{Point}
 use Rattle.bp_regions.specs.Cells.{Reach}
-use Rattle.bp_regions.specs.Cuts.{AreCuts}
 use Rattle.bp_regions.specs.Regions.{RegionsValue}
-use Rattle.std.specs.List.Sorted.{IsStrictlyIncreasing}
 
 -- A table without where it lies in memory: row by row, whether a cell is held.
 pub record TableValue : Type 0 where
@@ -25,13 +22,6 @@ bit C x y = if nat_lt x C.width && nat_lt y C.height then slice_index_or C.bits 
 
 abbrev pub Holds : TableValue → ℕ → ℕ → Type 0
 Holds C x y = IsTrue (bit C x y)
-
--- a rising list from 0 to the side between whose neighbours cells are alike
-pub record AreCutsOf (R : RegionsValue) (axis : Axis) (cuts : List ℕ) : Type 0 where
-  pub rising : IsStrictlyIncreasing cuts
-  pub first : slice_index cuts 0 ≡ 0
-  pub last : slice_index cuts (length cuts - 1) ≡ R.side
-  pub alike : AreCuts R.tree R.side R.points axis cuts
 
 -- the cells of a row, whose lower cut is y, were added for the first n columns
 pub record AddsRow (R : RegionsValue) (e : ℕ) (columns : List ℕ) (y n : ℕ) (before after : List Bool) : Type 0 where

@@ -3,7 +3,8 @@ ghost use Rattle.std.specs.Prelude.{◌≡◌, ◌+◌, ◌-◌, ◌^◌, ◌<�
 ghost use Rattle.bp_base.specs.declared.point.Axis.TheVariants.{X, Y};
 ghost use Rattle.bp_base.specs.Tree.{IsEdge};
 ghost use Rattle.bp_regions.specs.Runs.{Below, Beside};
-ghost use Rattle.bp_contour.specs.Table.{AddsRow, AreCutsOf, Holds, IsTable};
+ghost use Rattle.bp_regions.specs.Cuts.{AreCutsOf};
+ghost use Rattle.bp_contour.specs.Table.{AddsRow, Holds, IsTable};
 ghost use Rattle.bp_contour.specs.Ways.{Arrives, Begins, CanStep, GoesBy, Leaves, RunBy, step_on};
 
 use crate::way::Way;

@@ -8,7 +8,7 @@ ghost use Rattle.bp_regions.specs.Runs.{IsAfter, IsRun};
 use bp_metric::Metric;
 
 /// The law of following runs: each run along the boundary of Reach of an edge has a run after it, only one, and no two runs have
-/// the same run after them. So a walk from run to run ends where it began.
+/// the same run after them. So a tour from run to run ends where it began.
 pub fn law_of_after(metric: &Metric)
     ensures some { (S : ℕ) (P : List AnyPoint) (e : ℕ) (p q : AnyPoint) → IsRun (Reach metric.now.tree S P e) p q → (r : AnyPoint) × IsAfter (Reach metric.now.tree S P e) p q r }
     ensures one { (S : ℕ) (P : List AnyPoint) (e : ℕ) (p q r s : AnyPoint) → IsRun (Reach metric.now.tree S P e) p q → IsAfter (Reach metric.now.tree S P e) p q r → IsAfter (Reach metric.now.tree S P e) p q s → r ≡ s }

@@ -5,7 +5,7 @@ mod cells;
 mod laws;
 mod loops;
 mod runs;
-mod walk;
+mod tour;
 mod way;
 
 pub use laws::{law_of_after, one_contours};

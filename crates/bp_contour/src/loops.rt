@@ -6,12 +6,12 @@ ghost use Rattle.bp_regions.specs.Contours.{AreContours};
 
 use crate::cells::Cells;
 use crate::runs::runs_of;
-use crate::walk::loops_of;
+use crate::tour::loops_of;
 use bp_base::{Axis, NoMemory, Point, Sequence};
 use bp_regions::Regions;
 use std::alloc::Global;
 
-/// A closed loop along the boundary of a region, as its turning points in walking order, in grid units.
+/// A closed loop along the boundary of a region, as its turning points in the order in which it goes, in grid units.
 #[derive(Debug, Drop)]
 pub struct Loop {
     pub points: Sequence<Point>,

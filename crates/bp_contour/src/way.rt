@@ -1,4 +1,4 @@
-// Directions of a walk along a boundary.
+// Directions of a tour along a boundary.
 ghost use Rattle.std.specs.Prelude.{◌≡◌};
 ghost use Rattle.bp_contour.specs.Ways.{left_of, right_of, number_of};
 

@@ -13,7 +13,7 @@ use Rattle.bp_fold.specs.Vertices.{HasLeft, HasLower, HasRight, HasUpper, IsVert
 use Rattle.bp_fold.proofs.Crossings.{left_piece, lower_piece, no_right, no_upper}
 use Rattle.bp_fold.proofs.Lines.{OnLine, Space, in_order, later, lies, up_to}
 use Rattle.bp_fold.proofs.Segment.{inner_level, inner_upright, kept_owner, level_alike, level_from, level_on_line, outer_level, outer_upright, some_same, none_some, upright_alike, upright_from, upright_on_line}
-use Rattle.bp_fold.proofs.Walks.{run_drawn, run_free, stops, walk}
+use Rattle.bp_fold.proofs.Going.{run_drawn, run_free, stops, go}
 
 -- a straight line goes on at a point that is no vertex
 right_on : (R : RegionsValue) (p : Point) → (IsVertex R p → ⊥) → HasLeft R p → HasRight R p ⊎ (HasRight R p → ⊥) → HasRight R p
@@ -173,7 +173,7 @@ module _ (R : RegionsValue) (xs ys : List ℕ) (owners : List (Option ℕ)) (mes
   -- the column's line goes on upwards as long as there is no vertex
   pub up_goes_on : (i j k : ℕ) → j < k → i < length xs → k < length ys → HasUpper R (crossing xs ys i j) → ((c : ℕ) → j < c → c ≤ k → IsVertex R (crossing xs ys i c) → ⊥) → k + 1 < length ys
   up_goes_on i j k order in_x in_y upper free =
-      let there = walk R.side ys mesh.rows.rising mesh.rows.first mesh.rows.last (λ y. IsDrawn R Y (get_or xs i 0) y) (λ y. IsVertex R (record { x = get_or xs i 0; y = y }))
+      let there = go R.side ys mesh.rows.rising mesh.rows.first mesh.rows.last (λ y. IsDrawn R Y (get_or xs i 0) y) (λ y. IsVertex R (record { x = get_or xs i 0; y = y }))
       (λ y w t. upright_alike R xs ys mesh.regions mesh.columns mesh.rows (get_or xs i 0) y w t) (λ y w. on_row (record { x = get_or xs i 0; y = y }) w) (up_step i in_x) (λ k is. no_upper R xs ys owners mesh i k is)
       j k (omega (arith, order)) in_y upper free in
       omega (arith, in_y, λ (is : k + 1 ≡ length ys). no_upper R xs ys owners mesh i k is there)

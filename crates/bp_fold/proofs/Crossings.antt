@@ -9,7 +9,8 @@ use Rattle.bp_base.specs.declared.point.Axis.TheVariants.{X, Y}
 use Rattle.bp_base.specs.declared.point.Point.{Point}
 use Rattle.bp_regions.specs.Cells.{IsCell}
 use Rattle.bp_regions.specs.Regions.{RegionsValue, AreRegions}
-use Rattle.bp_fold.specs.Meshes.{AreLines, IsMesh, crossing}
+use Rattle.bp_regions.specs.Cuts.{AreCutsOf}
+use Rattle.bp_fold.specs.Meshes.{IsMesh, crossing}
 use Rattle.bp_fold.specs.Segments.{IsDrawn}
 use Rattle.bp_fold.specs.Vertices.{HasLeft, HasLower, HasRight, HasUpper, IsVertex, is_bent}
 use Rattle.bp_fold.proofs.Lines.{end_together, few, later, start_together}
@@ -105,7 +106,7 @@ module _ (R : RegionsValue) (p : Point) where
 few_spaces : (S : ℕ) (cuts : List ℕ) (rising : IsStrictlyIncreasing cuts) (first : get_or cuts 0 0 ≡ 0) (last : get_or cuts (length cuts - 1) 0 ≡ S) → S ≤ 999999999 → length cuts - 1 ≤ 999999999
 few_spaces S cuts rising first last small = omega (arith, small, few S cuts rising first last)
 
-pub few_cells : (R : RegionsValue) (xs ys : List ℕ) (a b : ℕ) → AreRegions R → AreLines R X xs → AreLines R Y ys → a ≡ length xs - 1 → b ≡ length ys - 1 → a * b ≤ 999999998000000001
+pub few_cells : (R : RegionsValue) (xs ys : List ℕ) (a b : ℕ) → AreRegions R → AreCutsOf R X xs → AreCutsOf R Y ys → a ≡ length xs - 1 → b ≡ length ys - 1 → a * b ≤ 999999998000000001
 few_cells R xs ys a b regions columns rows is_a is_b =
     let few_a : a ≤ 999999999 = omega (arith, is_a, few_spaces R.side xs columns.rising columns.first columns.last regions.placed.small) in
     let few_b : b ≤ 999999999 = omega (arith, is_b, few_spaces R.side ys rows.rising rows.first rows.last regions.placed.small) in
@@ -116,7 +117,7 @@ some_spaces zero m k less = absurd (omega (arith, less, zero-mul m))
 some_spaces (suc n) m k less = omega arith
 
 -- the unit cell at the lower left of a cell
-pub is_cell : (R : RegionsValue) (xs ys : List ℕ) (k n : ℕ) → AreLines R X xs → AreLines R Y ys → n ≡ length xs - 1 → k < n * (length ys - 1) → IsCell R.side (get_or xs (k % n) 0) (get_or ys (k / n) 0)
+pub is_cell : (R : RegionsValue) (xs ys : List ℕ) (k n : ℕ) → AreCutsOf R X xs → AreCutsOf R Y ys → n ≡ length xs - 1 → k < n * (length ys - 1) → IsCell R.side (get_or xs (k % n) 0) (get_or ys (k / n) 0)
 is_cell R xs ys k n columns rows is less =
     let m = length ys - 1 in
     let some : 0 < n = some_spaces n m k less in

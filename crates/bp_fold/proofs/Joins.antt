@@ -10,7 +10,8 @@ use Rattle.bp_regions.specs.Regions.{RegionsValue}
 use Rattle.bp_fold.specs.declared.drawing.Edge.{Edge}
 use Rattle.bp_fold.specs.Edges.{AreJoined, IsEdgeOf, RunsRight, RunsUp, vertex_at}
 use Rattle.bp_fold.specs.Numbering.{AreEdgesBefore, Leads, edge_to}
-use Rattle.bp_fold.specs.Vertices.{ComesBefore, IsVertex}
+use Rattle.bp_regions.specs.Contours.{ComesBefore}
+use Rattle.bp_fold.specs.Vertices.{IsVertex}
 use Rattle.bp_fold.proofs.Listing.{asymmetric, lists_push, lists_skip, number_order, one_number}
 
 -- the list of all vertices, in order

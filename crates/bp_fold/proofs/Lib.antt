@@ -4,7 +4,7 @@ mod Segment
 mod Crossings
 mod Listing
 mod CornerLists
-mod Walks
+mod Going
 mod Along
 mod Joins
 mod Numbered

@@ -5,9 +5,9 @@ use Rattle.std.proofs.lemmas.Bool.{cases_eq, cases_order}
 use Rattle.std.proofs.lemmas.List.{get_or_append_left, get_or_push, length_push}
 use Rattle.std.proofs.lemmas.List.Elements.{Contains-append_cases, Contains-append_left, Contains-append_right, Contains-get_or}
 use Rattle.bp_fold.specs.Listing.{ListsBefore}
-use Rattle.bp_fold.specs.Vertices.{IsBefore}
+use Rattle.bp_fold.specs.Vertices.{IsPairBefore}
 
-pub asymmetric : (a b c d : ℕ) → IsBefore a b c d → IsBefore c d a b → ⊥
+pub asymmetric : (a b c d : ℕ) → IsPairBefore a b c d → IsPairBefore c d a b → ⊥
 asymmetric a b c d (inl l) (inl m) = omega (arith, l, m)
 asymmetric a b c d (inl l) (inr m) = omega (arith, l, m.0)
 asymmetric a b c d (inr l) (inl m) = omega (arith, l.0, m)
@@ -89,7 +89,7 @@ module _ {X : Type 0} (B : X → X → Type 0) (asym : (x y : X) → B x y → B
       ]
 
 module _ {X : Type 0} (first second : X → ℕ) (P : X → Type 0) where
-  none : (x : X) → IsBefore (first x) (second x) 0 0 → ⊥
+  none : (x : X) → IsPairBefore (first x) (second x) 0 0 → ⊥
   none x (inl l) = omega (arith, l)
   none x (inr l) = omega (arith, l.1)
 
@@ -100,7 +100,7 @@ module _ {X : Type 0} (first second : X → ℕ) (P : X → Type 0) where
   }
 
   -- nothing new up to a later place
-  pub lists_skip : (a b c d : ℕ) (xs : List X) → ((x : X) → IsBefore (first x) (second x) a b → IsBefore (first x) (second x) c d) → ((x : X) → P x → IsBefore (first x) (second x) c d → IsBefore (first x) (second x) a b) → ListsBefore first second P a b xs → ListsBefore first second P c d xs
+  pub lists_skip : (a b c d : ℕ) (xs : List X) → ((x : X) → IsPairBefore (first x) (second x) a b → IsPairBefore (first x) (second x) c d) → ((x : X) → P x → IsPairBefore (first x) (second x) c d → IsPairBefore (first x) (second x) a b) → ListsBefore first second P a b xs → ListsBefore first second P c d xs
   lists_skip a b c d xs on back h = record {
     rising = h.rising;
     each = λ x. (
@@ -109,11 +109,11 @@ module _ {X : Type 0} (first second : X → ℕ) (P : X → Type 0) where
     );
   }
 
-  one_on : (a b : ℕ) (x : X) → IsBefore (first x) (second x) a b → IsBefore (first x) (second x) a (b + 1)
+  one_on : (a b : ℕ) (x : X) → IsPairBefore (first x) (second x) a b → IsPairBefore (first x) (second x) a (b + 1)
   one_on a b x (inl l) = inl l
   one_on a b x (inr l) = inr (l.0, omega (arith, l.1))
 
-  one_back : (a b : ℕ) (x : X) → IsBefore (first x) (second x) a (b + 1) → IsBefore (first x) (second x) a b ⊎ ((first x ≡ a) × (second x ≡ b))
+  one_back : (a b : ℕ) (x : X) → IsPairBefore (first x) (second x) a (b + 1) → IsPairBefore (first x) (second x) a b ⊎ ((first x ≡ a) × (second x ≡ b))
   one_back a b x (inl l) = inl (inl l)
   one_back a b x (inr l) = elim (cases_eq (second x) b) [
     | inl same ↦ inr (l.0, same)
@@ -123,9 +123,9 @@ module _ {X : Type 0} (first second : X → ℕ) (P : X → Type 0) where
   -- the element at the place
   pub lists_push : (a b : ℕ) (xs : List X) (x : X) → first x ≡ a → second x ≡ b → P x → ((y : X) → first y ≡ a → second y ≡ b → y ≡ x) → ListsBefore first second P a b xs → ListsBefore first second P a (b + 1) (xs ++ x ∷ [])
   lists_push a b xs x at_a at_b is only h =
-      let before : (z : X) → Contains xs z → IsBefore (first z) (second z) (first x) (second x) = λ z here. rw (at_a, at_b) ((h.each z).0 here).1 in
+      let before : (z : X) → Contains xs z → IsPairBefore (first z) (second z) (first x) (second x) = λ z here. rw (at_a, at_b) ((h.each z).0 here).1 in
       record {
-        rising = push_pairs (λ (y z : X). IsBefore (first y) (second y) (first z) (second z)) (λ y z. asymmetric (first y) (second y) (first z) (second z)) xs x h.rising before;
+        rising = push_pairs (λ (y z : X). IsPairBefore (first y) (second y) (first z) (second z)) (λ y z. asymmetric (first y) (second y) (first z) (second z)) xs x h.rising before;
         each = λ y. (
           λ here. elim (Contains-append_cases xs (x ∷ []) y here) [
             | inl old ↦ let p = (h.each y).0 old in (p.0, one_on a b y p.1)

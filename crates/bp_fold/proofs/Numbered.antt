@@ -11,7 +11,8 @@ use Rattle.bp_fold.specs.declared.mesh.Corner.{Corner}
 use Rattle.bp_fold.specs.Edges.{RunsRight, RunsUp, vertex_at}
 use Rattle.bp_fold.specs.Meshes.{IsMesh, crossing}
 use Rattle.bp_fold.specs.Numbering.{AreCorners, IsCornerOf, Leads, StandsBefore, corner_at, point_of, points_of}
-use Rattle.bp_fold.specs.Vertices.{ComesBefore, HasRight, HasUpper, IsBefore, IsVertex}
+use Rattle.bp_regions.specs.Contours.{ComesBefore}
+use Rattle.bp_fold.specs.Vertices.{HasRight, HasUpper, IsPairBefore, IsVertex}
 use Rattle.bp_fold.proofs.Along.{on_column, on_row, right_run, right_stops, up_run}
 use Rattle.bp_fold.proofs.Joins.{AreVertices, same_point}
 use Rattle.bp_fold.proofs.Lines.{later}
@@ -136,12 +137,12 @@ module _ (R : RegionsValue) (xs ys : List ℕ) (owners : List (Option ℕ)) (mes
 
 -- searching for a crossing: its number lies below that of a later one
 module _ (C : List Corner) (rising : AllPairs StandsBefore C) (t : Corner) where
-  pub below_later : (k m : ℕ) → k < length C → m < length C → get_or C k t ≡ t → IsBefore t.row t.column (get_or C m (corner_at 0 0)).row (get_or C m (corner_at 0 0)).column → k < m
+  pub below_later : (k m : ℕ) → k < length C → m < length C → get_or C k t ≡ t → IsPairBefore t.row t.column (get_or C m (corner_at 0 0)).row (get_or C m (corner_at 0 0)).column → k < m
   below_later k m in_k in_m here before =
       let at_k : get_or C k (corner_at 0 0) ≡ t = get_or_default C k (corner_at 0 0) t in_k ∙ here in
       number_order StandsBefore corners_asym C k m (corner_at 0 0) rising in_k in_m (subst (λ (c : Corner). StandsBefore c (get_or C m (corner_at 0 0))) (sym at_k) before)
 
-  pub not_below : (k m : ℕ) → k < length C → m < length C → get_or C k t ≡ t → (IsBefore t.row t.column (get_or C m (corner_at 0 0)).row (get_or C m (corner_at 0 0)).column → ⊥) → m ≤ k
+  pub not_below : (k m : ℕ) → k < length C → m < length C → get_or C k t ≡ t → (IsPairBefore t.row t.column (get_or C m (corner_at 0 0)).row (get_or C m (corner_at 0 0)).column → ⊥) → m ≤ k
   not_below k m in_k in_m here none = elim (cases_order k m) [
     | inl same ↦ omega (arith, same)
     | inr (inl less) ↦

@@ -6,10 +6,10 @@ use Rattle.std.proofs.lemmas.List.{get_or_default}
 use Rattle.std.proofs.lemmas.Nat.{div-mul-add, mod-mul-add, mul-add-lt}
 use Rattle.bp_base.specs.declared.point.Axis.TheVariants.{X, Y}
 use Rattle.bp_regions.specs.Cells.{Owner}
-use Rattle.bp_regions.specs.Cuts.{AreTogether}
+use Rattle.bp_regions.specs.Cuts.{AreTogether, AreCutsOf}
 use Rattle.bp_regions.specs.Regions.{RegionsValue, AreRegions}
 use Rattle.bp_regions.proofs.Disjoint.{one_owner}
-use Rattle.bp_fold.specs.Meshes.{AreLines, IsMesh, IsOwner}
+use Rattle.bp_fold.specs.Meshes.{IsMesh, IsOwner}
 use Rattle.bp_fold.specs.Segments.{IsDrawn}
 use Rattle.bp_fold.proofs.Across.{Drawn, at_side, at_zero, between, first_line, inner_line, is_line, last_line, moved}
 use Rattle.bp_fold.proofs.Lines.{OnLine, later, up_to}
@@ -39,7 +39,7 @@ module _ (R : RegionsValue) where
   upright_to x y within (at_side e) = inl (within, inr e)
   upright_to x y within (between p) = inr (p.above, (p.below, within), record { one = p.one; other = p.other; first = p.first; second = p.second; differ = p.differ })
 
-  module _ (xs ys : List ℕ) (regions : AreRegions R) (columns : AreLines R X xs) (rows : AreLines R Y ys) where
+  module _ (xs ys : List ℕ) (regions : AreRegions R) (columns : AreCutsOf R X xs) (rows : AreCutsOf R Y ys) where
     up_to_column : (i : ℕ) → i + 1 < length xs → get_or xs i 0 < R.side
     up_to_column i within = omega (arith, columns.last, later R.side xs columns.rising columns.first columns.last i (length xs - 1) (omega (arith, within)) (omega (arith, within)))
 

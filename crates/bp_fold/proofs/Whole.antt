@@ -12,7 +12,7 @@ use Rattle.bp_fold.specs.Drawings.{IsDrawing}
 use Rattle.bp_fold.specs.Edges.{GoesBefore, IsEdgeOf, letter_of}
 use Rattle.bp_fold.specs.Meshes.{IsMesh}
 use Rattle.bp_fold.specs.Numbering.{AreCorners, AreEdgesBefore, point_of, points_of}
-use Rattle.bp_fold.specs.Vertices.{ComesBefore}
+use Rattle.bp_regions.specs.Contours.{ComesBefore}
 use Rattle.bp_fold.proofs.Joins.{points_asym}
 use Rattle.bp_fold.proofs.Listing.{asymmetric, one_list}
 use Rattle.bp_fold.proofs.Numbered.{are_vertices, corner_is}

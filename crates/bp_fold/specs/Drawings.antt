@@ -5,7 +5,8 @@ use Rattle.bp_base.specs.declared.point.Point.{Point}
 use Rattle.bp_regions.specs.Regions.{RegionsValue}
 use Rattle.bp_fold.specs.declared.drawing.Drawing.{Drawing}
 use Rattle.bp_fold.specs.declared.drawing.Edge.{Edge}
-use Rattle.bp_fold.specs.Vertices.{ComesBefore, IsVertex}
+use Rattle.bp_regions.specs.Contours.{ComesBefore}
+use Rattle.bp_fold.specs.Vertices.{IsVertex}
 use Rattle.bp_fold.specs.Edges.{GoesBefore, IsEdgeOf, letter_of}
 
 pub record IsDrawing (R : RegionsValue) (D : Drawing) : Type 0 where

@@ -8,7 +8,7 @@ use Rattle.bp_fold.specs.declared.drawing.Edge.{Edge}
 use Rattle.bp_fold.specs.declared.drawing.Letter.{Letter}
 use Rattle.bp_fold.specs.declared.drawing.Letter.TheVariants.{Boundary, Unassigned}
 use Rattle.bp_fold.specs.Segments.{IsDrawn}
-use Rattle.bp_fold.specs.Vertices.{IsBefore, IsVertex}
+use Rattle.bp_fold.specs.Vertices.{IsPairBefore, IsVertex}
 
 -- every unit segment from p to the right to q is drawn, and no point strictly between them is a vertex
 pub record RunsRight (R : RegionsValue) (p q : Point) : Type 0 where
@@ -37,7 +37,7 @@ IsEdgeOf R vertices e = (e.from < e.to) × (e.to < length vertices) × AreJoined
 
 -- the order of edges, by their two numbers
 abbrev pub GoesBefore : Edge → Edge → Type 0
-GoesBefore e f = IsBefore e.from e.to f.from f.to
+GoesBefore e f = IsPairBefore e.from e.to f.from f.to
 
 -- the run between two points lies on the border of the square of side S
 abbrev pub lies_on_border : ℕ → Point → Point → Bool

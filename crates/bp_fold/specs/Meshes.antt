@@ -1,21 +1,12 @@
 -- The mesh on which a drawing is found: the cut lines of both axes, and the owners of the cells between them.
 -- Columns and rows are counted from 0, lines and the spaces between them alike: space k lies between the lines k and k + 1.
 use Rattle.std.specs.Prelude.{◌≡◌, ℕ, ◌-◌, ◌*◌, ◌/◌, ◌%◌, ◌<◌, List, Option, None, length, slice_index, slice_index_or}
-use Rattle.std.specs.List.Sorted.{IsStrictlyIncreasing}
-use Rattle.bp_base.specs.declared.point.Axis.{Axis}
 use Rattle.bp_base.specs.declared.point.Axis.TheVariants.{X, Y}
 use Rattle.bp_base.specs.declared.point.Point.{Point}
 use Rattle.bp_regions.specs.Cells.{Owner}
-use Rattle.bp_regions.specs.Cuts.{AreCuts}
+use Rattle.bp_regions.specs.Cuts.{AreCutsOf}
 use Rattle.bp_regions.specs.Regions.{RegionsValue, AreRegions}
 use Rattle.bp_fold.specs.declared.mesh.Mesh.{Mesh}
-
--- what `cuts` says of the cuts of an axis
-pub record AreLines (R : RegionsValue) (axis : Axis) (cuts : List ℕ) : Type 0 where
-  pub rising : IsStrictlyIncreasing cuts
-  pub first : slice_index cuts 0 ≡ 0
-  pub last : slice_index cuts (length cuts - 1) ≡ R.side
-  pub alike : AreCuts R.tree R.side R.points axis cuts
 
 -- the one owner of the cell
 pub record IsOwner (R : RegionsValue) (x y : ℕ) (o : Option ℕ) : Type 0 where
@@ -29,8 +20,8 @@ pub record AreOwners (R : RegionsValue) (xs ys : List ℕ) (owners : List (Optio
 
 pub record IsMesh (R : RegionsValue) (xs ys : List ℕ) (owners : List (Option ℕ)) : Type 0 where
   pub regions : AreRegions R
-  pub columns : AreLines R X xs
-  pub rows : AreLines R Y ys
+  pub columns : AreCutsOf R X xs
+  pub rows : AreCutsOf R Y ys
   pub owned : AreOwners R xs ys owners
 
 -- the point where two lines cross

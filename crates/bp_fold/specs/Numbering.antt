@@ -8,7 +8,7 @@ use Rattle.bp_fold.specs.declared.mesh.Mesh.{Mesh}
 use Rattle.bp_fold.specs.Edges.{IsEdgeOf, vertex_at}
 use Rattle.bp_fold.specs.Listing.{ListsBefore}
 use Rattle.bp_fold.specs.Meshes.{crossing}
-use Rattle.bp_fold.specs.Vertices.{IsBefore, IsVertex}
+use Rattle.bp_fold.specs.Vertices.{IsPairBefore, IsVertex}
 
 abbrev pub corner_at : ℕ → ℕ → Corner
 corner_at column row = record { column = column; row = row }
@@ -25,7 +25,7 @@ IsCornerOf R xs ys c = (c.column < length xs) × (c.row < length ys) × IsVertex
 
 -- the order of crossings, by row and column
 abbrev pub StandsBefore : Corner → Corner → Type 0
-StandsBefore c d = IsBefore c.row c.column d.row d.column
+StandsBefore c d = IsPairBefore c.row c.column d.row d.column
 
 -- all vertices that stand before this crossing
 abbrev pub AreCornersBefore : RegionsValue → List ℕ → List ℕ → ℕ → ℕ → List Corner → Type 0

@@ -24,13 +24,9 @@ pub record IsVertex (R : RegionsValue) (p : Point) : Type 0 where
   pub not_level : HasLeft R p → HasRight R p → ¬ HasLower R p → ¬ HasUpper R p → ⊥
   pub not_upright : HasLower R p → HasUpper R p → ¬ HasLeft R p → ¬ HasRight R p → ⊥
 
--- of two pairs of numbers the first comes before the second: by their first numbers, and where these are equal by their second ones
-abbrev pub IsBefore : ℕ → ℕ → ℕ → ℕ → Type 0
-IsBefore a b c d = (a < c) ⊎ ((a ≡ c) × (b < d))
-
--- the order of vertices, by (y, x)
-abbrev pub ComesBefore : Point → Point → Type 0
-ComesBefore p q = IsBefore p.y p.x q.y q.x
+-- of two pairs of numbers the first comes before the second: by their first numbers, and where these are equal by their second ones; vertices, by (y, x), stand in this order
+abbrev pub IsPairBefore : ℕ → ℕ → ℕ → ℕ → Type 0
+IsPairBefore a b c d = (a < c) ⊎ ((a ≡ c) × (b < d))
 
 -- whether the drawn ones among the left, right, lower and upper segment make a vertex
 abbrev pub is_bent : Bool → Bool → Bool → Bool → Bool

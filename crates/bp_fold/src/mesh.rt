@@ -2,7 +2,8 @@
 ghost use Rattle.std.specs.Prelude.{◌≡◌, ◌⊎◌, ◌+◌, ◌-◌, ◌<◌, ◌↔◌, ℕ, IsTrue, IfOk, length, slice_index};
 ghost use Rattle.bp_base.specs.declared.point.Axis.TheVariants.{X, Y};
 ghost use Rattle.bp_regions.specs.Regions.{AreRegions};
-ghost use Rattle.bp_fold.specs.Meshes.{AreLines, AreOwners, FitsRegions, IsOwner, crossing_of};
+ghost use Rattle.bp_regions.specs.Cuts.{AreCutsOf};
+ghost use Rattle.bp_fold.specs.Meshes.{AreOwners, FitsRegions, IsOwner, crossing_of};
 ghost use Rattle.bp_fold.specs.Segments.{IsDrawn};
 ghost use Rattle.bp_fold.specs.Vertices.{HasLeft, HasLower, HasRight, HasUpper, IsVertex, is_bent};
 
@@ -48,8 +49,8 @@ fn owners_of(
     ys: &[u64],
 ) -> Result<Vec<Option<u64>>, NoMemory>
     requires regions { AreRegions regions.now }
-    requires columns { AreLines regions.now X xs.now }
-    requires rows { AreLines regions.now Y ys.now }
+    requires columns { AreCutsOf regions.now X xs.now }
+    requires rows { AreCutsOf regions.now Y ys.now }
     ensures { IfOk result (λ v. AreOwners regions.now xs.now ys.now v.items) }
 {
     let columns = xs.len().saturating_sub(1);

@@ -4,7 +4,7 @@ ghost use Rattle.std.specs.List.{AllPairs, Contains};
 ghost use Rattle.bp_fold.specs.Edges.{IsEdgeOf, RunsRight, RunsUp, letter_of};
 ghost use Rattle.bp_fold.specs.Meshes.{FitsRegions, crossing_of};
 ghost use Rattle.bp_fold.specs.Numbering.{HasCorners, HasEdgesBefore, Leads, StandsBefore, corner_at, edge_to, vertices_of};
-ghost use Rattle.bp_fold.specs.Vertices.{HasUpper, IsBefore, IsVertex};
+ghost use Rattle.bp_fold.specs.Vertices.{HasUpper, IsPairBefore, IsVertex};
 
 use crate::drawing::{Edge, Letter};
 use crate::mesh::{Corner, Mesh};
@@ -126,7 +126,7 @@ fn number_of(corners: &[Corner], column: usize, row: usize) -> usize
 
 // Whether the corner stands after the crossing.
 fn is_after(corner: Corner, column: usize, row: usize) -> bool
-    ensures { IsTrue result ↔ IsBefore row column corner.row corner.column }
+    ensures { IsTrue result ↔ IsPairBefore row column corner.row corner.column }
 {
     row < corner.row || row == corner.row && column < corner.column
 }

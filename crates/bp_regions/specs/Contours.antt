@@ -1,4 +1,4 @@
--- Contours: the closed walks along the boundary of a set of cells, as the points at which they turn.
+-- Contours: the closed loops along the boundary of a set of cells, as the points at which they turn.
 use Rattle.std.specs.Prelude.{◌≡◌, ◌⊎◌, ℕ, ◌+◌, ◌<◌, ◌==◌, List, [], length, slice_index_or, if◌then◌else◌}
 use Rattle.bp_base.specs.declared.point.Point.{Point}
 use Rattle.bp_base.specs.Point.{origin}

@@ -1,10 +1,12 @@
 -- Cuts: a rising list from 0 to the side, between whose neighbours all cells are alike.
-use Rattle.std.specs.Prelude.{ℕ, ◌+◌, ◌<◌, ◌≤◌, ◌↔◌, List, Option, length, slice_index}
+use Rattle.std.specs.Prelude.{◌≡◌, ℕ, ◌+◌, ◌-◌, ◌<◌, ◌≤◌, ◌↔◌, List, Option, length, slice_index}
+use Rattle.std.specs.List.Sorted.{IsStrictlyIncreasing}
 use Rattle.bp_base.specs.declared.point.Axis.{Axis}
 use Rattle.bp_base.specs.declared.point.Axis.TheVariants.{X, Y}
 use Rattle.bp_base.specs.declared.point.Point.{Point}
 use Rattle.bp_base.specs.Tree.{TreeValue, IsEdge}
 use Rattle.bp_regions.specs.Cells.{Own, Owner, Reach}
+use Rattle.bp_regions.specs.Regions.{RegionsValue}
 
 -- a and b lie between the same two neighbouring cuts
 pub record AreTogether (cuts : List ℕ) (a b : ℕ) : Type 0 where
@@ -25,3 +27,10 @@ pub record AreAlike (T : TreeValue) (S : ℕ) (P : List Point) (x y v w : ℕ) :
 abbrev pub AreCuts : TreeValue → ℕ → List Point → Axis → List ℕ → Type 0
 AreCuts T S P X cuts = (x v y : ℕ) → AreTogether cuts x v → AreAlike T S P x y v y
 AreCuts T S P Y cuts = (x y w : ℕ) → AreTogether cuts y w → AreAlike T S P x y x w
+
+-- what regions answer for the cuts of an axis: such a list, which rises from 0 to the side
+pub record AreCutsOf (R : RegionsValue) (axis : Axis) (cuts : List ℕ) : Type 0 where
+  pub rising : IsStrictlyIncreasing cuts
+  pub first : slice_index cuts 0 ≡ 0
+  pub last : slice_index cuts (length cuts - 1) ≡ R.side
+  pub alike : AreCuts R.tree R.side R.points axis cuts

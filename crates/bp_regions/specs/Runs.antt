@@ -49,7 +49,7 @@ IsSouthRun In p q = (p.x ≡ q.x) × IsStretch (λ y. GoesSouth In p.x y) q.y p.
 abbrev pub IsRun : (ℕ → ℕ → Type 0) → Point → Point → Type 0
 IsRun In p q = IsEastRun In p q ⊎ IsNorthRun In p q ⊎ IsWestRun In p q ⊎ IsSouthRun In p q
 
--- a walk from p to q and on to r turns left at q
+-- who goes from p to q and on to r turns left at q
 abbrev pub TurnsLeft : Point → Point → Point → Type 0
 TurnsLeft p q r =
     ((p.x < q.x) × (q.y < r.y)) ⊎ ((p.y < q.y) × (r.x < q.x)) ⊎ ((q.x < p.x) × (r.y < q.y)) ⊎ ((q.y < p.y) × (q.x < r.x))

@@ -3,7 +3,8 @@ use Rattle.std.proofs.lemmas.Result.{IfOk-weaker}
 use Rattle.bp_base.specs.declared.point.Axis.TheVariants.{X, Y}
 use Rattle.bp_contour.specs.declared.loops.Loop.{Loop}
 use Rattle.bp_contour.specs.Listed.{AreRuns}
-use Rattle.bp_contour.specs.Table.{AreCutsOf, Holds}
+use Rattle.bp_regions.specs.Cuts.{AreCutsOf}
+use Rattle.bp_contour.specs.Table.{Holds}
 use Rattle.bp_contour.proofs.Exact.{contours_exact, on_grid}
 use Rattle.bp_contour.proofs.loops.contours.Goals as goal
 

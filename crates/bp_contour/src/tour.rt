@@ -1,9 +1,9 @@
-// Walks from run to run.
+// Tours from run to run.
 ghost use Rattle.std.specs.Prelude.{◌≡◌, ◌<◌, false, length, map, IfOk};
 ghost use Rattle.bp_contour.specs.declared.loops.Loop.{Loop as AnyLoop};
 ghost use Rattle.bp_contour.specs.Listed.{AreRuns, Follows};
 ghost use Rattle.bp_contour.specs.Table.{Holds, grid_point};
-ghost use Rattle.bp_contour.specs.Walks.{AreClosed, AreOnGrid, AreRound, IsRound, mark_at, start_of};
+ghost use Rattle.bp_contour.specs.Tours.{AreClosed, AreOnGrid, AreRound, IsRound, mark_at, start_of};
 
 use crate::cells::Cells;
 use crate::loops::Loop;
@@ -27,7 +27,7 @@ pub fn loops_of(
     let mut loops = Vec::new(alloc);
     for start in 0..runs.len() {
         if !taken[start] {
-            let points = walk(alloc, cells, runs, columns, rows, &mut taken, start)?;
+            let points = tour(alloc, cells, runs, columns, rows, &mut taken, start)?;
             loops.push(Loop { points })?;
         }
     }
@@ -35,7 +35,7 @@ pub fn loops_of(
 }
 
 // The loop that begins with the run at this place. Its runs are marked as taken.
-fn walk(
+fn tour(
     alloc: Global,
     cells: &Cells,
     runs: &[Run],

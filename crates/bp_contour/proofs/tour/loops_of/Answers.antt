@@ -4,11 +4,11 @@ use Rattle.bp_base.specs.declared.point.Point.{Point}
 use Rattle.bp_contour.specs.declared.loops.Loop.{Loop}
 use Rattle.bp_contour.specs.Listed.{Follows}
 use Rattle.bp_contour.specs.Table.{Holds}
-use Rattle.bp_contour.specs.Walks.{AreClosed, IsRound, mark_at, start_of}
+use Rattle.bp_contour.specs.Tours.{AreClosed, IsRound, mark_at, start_of}
 use Rattle.bp_contour.proofs.Followed.{follows_back}
-use Rattle.bp_contour.proofs.Walking.{AreUnderWay, add_round, all_round, marks_closed, none_under_way, skip_marked}
-use Rattle.bp_contour.proofs.walk.loops_of.Goals as goal
-use Rattle.bp_contour.proofs.walk.loops_of.Goals.{then-not-index+in_ok-points+in_ok-push, else-not-index}
+use Rattle.bp_contour.proofs.Touring.{AreUnderWay, add_round, all_round, marks_closed, none_under_way, skip_marked}
+use Rattle.bp_contour.proofs.tour.loops_of.Goals as goal
+use Rattle.bp_contour.proofs.tour.loops_of.Goals.{then-not-index+in_ok-points+in_ok-push, else-not-index}
 
 pub loop-start-init : goal.loop-start-init
 loop-start-init c =
@@ -17,8 +17,8 @@ loop-start-init c =
     let point : ℕ → Point = start_of c.args.columns.now c.args.rows.now rs in
     subst (λ (l : List Loop). AreUnderWay (Follows (Holds C) rs) point (length rs) 0 c.in_ok-taken.taken.items (map (λ (o : Loop). o.points) l)) (sym c.new-loops.ensures.items) (none_under_way (Follows (Holds C) rs) point (follows_back (Holds C) rs c.requires.runs) (length rs) c.in_ok-taken.taken.items (c.in_ok-taken.ensures.items_if_clones_equal (λ y e. e)))
 
-pub walk-requires-clause-closed : goal.walk-requires-clause-closed
-walk-requires-clause-closed c =
+pub tour-requires-clause-closed : goal.tour-requires-clause-closed
+tour-requires-clause-closed c =
     let C = c.args.cells.now in
     let rs = c.args.runs.now in
     subst (AreClosed (Follows (Holds C) rs)) (sym c.deref_mut.ensures.value) (marks_closed (Follows (Holds C) rs) (start_of c.args.columns.now c.args.rows.now rs) (follows_back (Holds C) rs c.requires.runs) (length rs) c.loop-start.start c.loop-start.taken.items _ c.loop-start.invariant)
@@ -32,10 +32,10 @@ loop-start-preserved c =
     elim c.if-not-index.branch [
       | then-not-index+in_ok-points+in_ok-push w ↦
           let marks : w.deref_mut.result.now ≡ c.loop-start.taken.items = w.deref_mut.ensures.value in
-          let round : IsRound (Follows (Holds C) rs) point c.loop-start.start c.loop-start.taken.items w.walk.new.taken w.in_ok-points.points = subst (λ (m : List Bool). IsRound (Follows (Holds C) rs) point c.loop-start.start m w.walk.new.taken w.in_ok-points.points) marks w.in_ok-points.ensures in
-          let now : c.if-not-index.taken.items ≡ w.walk.new.taken = ap (λ (v : Vec Bool Global). v.items) w.taken-is ∙ with_items_is c.loop-start.taken w.walk.new.taken (round.marks.long ∙ sym c.loop-start.taken.ok.0) in
+          let round : IsRound (Follows (Holds C) rs) point c.loop-start.start c.loop-start.taken.items w.tour.new.taken w.in_ok-points.points = subst (λ (m : List Bool). IsRound (Follows (Holds C) rs) point c.loop-start.start m w.tour.new.taken w.in_ok-points.points) marks w.in_ok-points.ensures in
+          let now : c.if-not-index.taken.items ≡ w.tour.new.taken = ap (λ (v : Vec Bool Global). v.items) w.taken-is ∙ with_items_is c.loop-start.taken w.tour.new.taken (round.marks.long ∙ sym c.loop-start.taken.ok.0) in
           let more : map (λ (o : Loop). o.points) c.if-not-index.loops.items ≡ map (λ (o : Loop). o.points) c.loop-start.loops.items ++ w.in_ok-points.points ∷ [] = ap (λ (v : Vec Loop Global). map (λ (o : Loop). o.points) v.items) w.loops-is ∙ ap (map (λ (o : Loop). o.points)) w.in_ok-push.ensures.items ∙ map-append (λ (o : Loop). o.points) c.loop-start.loops.items _ in
-          subst (λ (m : List Bool). AreUnderWay (Follows (Holds C) rs) point (length rs) (c.loop-start.start + 1) m (map (λ (o : Loop). o.points) c.if-not-index.loops.items)) (sym now) (add_round (Follows (Holds C) rs) point back (length rs) c.loop-start.start c.loop-start.taken.items _ c.loop-start.invariant w.walk.new.taken _ w.in_ok-points.points round more)
+          subst (λ (m : List Bool). AreUnderWay (Follows (Holds C) rs) point (length rs) (c.loop-start.start + 1) m (map (λ (o : Loop). o.points) c.if-not-index.loops.items)) (sym now) (add_round (Follows (Holds C) rs) point back (length rs) c.loop-start.start c.loop-start.taken.items _ c.loop-start.invariant w.tour.new.taken _ w.in_ok-points.points round more)
       | else-not-index w ↦
           let on : mark_at c.loop-start.taken.items c.loop-start.start ≡ true = sym (get_or_read c.loop-start.taken.items c.loop-start.start c.index.result.now (omega (arith, c.loop-start-test.true, c.loop-start.invariant.long)) c.index.ensures false) ∙ w.if-not-index.false in
           subst (λ (v : Vec Loop Global). AreUnderWay (Follows (Holds C) rs) point (length rs) (c.loop-start.start + 1) c.if-not-index.taken.items (map (λ (o : Loop). o.points) v.items)) (sym w.loops-is) (subst (λ (v : Vec Bool Global). AreUnderWay (Follows (Holds C) rs) point (length rs) (c.loop-start.start + 1) v.items (map (λ (o : Loop). o.points) c.loop-start.loops.items)) (sym w.taken-is) (skip_marked (Follows (Holds C) rs) point back (length rs) c.loop-start.start c.loop-start.taken.items _ c.loop-start.invariant on))

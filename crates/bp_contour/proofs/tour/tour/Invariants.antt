@@ -1,8 +1,8 @@
 use Rattle.bp_contour.specs.Listed.{Follows}
 use Rattle.bp_contour.specs.Table.{Holds}
-use Rattle.bp_contour.specs.Walks.{start_of}
-use Rattle.bp_contour.proofs.Walking.{IsUnderWay, free_count}
-use Rattle.bp_contour.proofs.walk.walk.Given as goal
+use Rattle.bp_contour.specs.Tours.{start_of}
+use Rattle.bp_contour.proofs.Touring.{IsUnderWay, free_count}
+use Rattle.bp_contour.proofs.tour.tour.Given as goal
 
 abbrev pub invariant-loop-place : goal.invariant-loop-place
 invariant-loop-place l =
