@@ -1,15 +1,15 @@
 // Single lines of a certificate, written without memory.
-ghost use Rattle.std.specs.Prelude.{◌++◌, ◌∷◌, [], codes, decimal, map};
+ghost use Rattle.std.specs.Prelude.{◌≡◌, ◌++◌, ◌∷◌, [], codes, decimal, map, Some};
 ghost use Rattle.std.specs.List.{flat_map};
 ghost use Rattle.bp_base.specs.Causes.{HasCause};
-ghost use Rattle.bp_document.specs.Lines.{axis_word, word};
+ghost use Rattle.bp_document.specs.Lines.{word};
 ghost use Rattle.bp_text.specs.Puts.{Puts};
-ghost use Rattle.bp_certificate.specs.Lines.{coordinate, corner_line, fact_word, hint_word, lemma_line, order_word, pair_words, swap_line};
+ghost use Rattle.bp_certificate.specs.Lines.{below_sign, corner_line, fact_word, hint_word, least_sign, lemma_line, pair_words, swap_line};
 
 use crate::Lemma;
 use bp_arrangement::{Fact, Hint};
-use bp_base::{Axis, Failed, Pair, Sink};
-use bp_document::{axis_word, put_keyword};
+use bp_base::{Failed, Pair, Sink};
+use bp_document::{axis_word, put_keyword, put_two_words};
 use bp_text::{put, put_parts};
 use itoa::Buffer;
 
@@ -24,35 +24,46 @@ fn put_fact<K: Sink>(sink: &mut K, fact: Fact) -> Result<(), Failed>
             axis,
             first,
             second,
-        } => put_order(sink, b" ", axis, first, second),
+        } => put_order(sink, b" ", axis_word(axis), first, second),
         Fact::NotBefore {
             axis,
             first,
             second,
-        } => put_order(sink, b" !", axis, first, second),
+        } => put_order(sink, b" !", axis_word(axis), first, second),
         Fact::Least { axis, leaf, code } => {
-            let sign: &[u8] = if code % 2 == 0 { b">=" } else { b">" };
-            put_bound(sink, axis, leaf, sign, code / 2)
+            put_bound(sink, axis_word(axis), leaf, least_sign(code), code / 2)
         }
         Fact::Below { axis, leaf, code } => {
-            let sign: &[u8] = if code % 2 == 0 { b"<" } else { b"<=" };
-            put_bound(sink, axis, leaf, sign, code / 2)
+            put_bound(sink, axis_word(axis), leaf, below_sign(code), code / 2)
         }
     }
+}
+
+// The sign of a lower bound's code.
+fn least_sign(code: u64) -> &'static [u8]
+    ensures { result.now ≡ least_sign code }
+{
+    if code % 2 == 0 { b">=" } else { b">" }
+}
+
+// The sign of an upper bound's code.
+fn below_sign(code: u64) -> &'static [u8]
+    ensures { result.now ≡ below_sign code }
+{
+    if code % 2 == 0 { b"<" } else { b"<=" }
 }
 
 // The first leaf before the second, behind a mark.
 fn put_order<K: Sink>(
     sink: &mut K,
     mark: &[u8],
-    axis: Axis,
+    letter: &[u8],
     first: u64,
     second: u64,
 ) -> Result<(), Failed>
-    ensures text { Puts (K.held sink.old) (K.held sink.new) result (mark.now ++ order_word axis first second) }
+    ensures text { Puts (K.held sink.old) (K.held sink.new) result (mark.now ++ ((letter.now ++ decimal first) ++ (codes "<<" ++ (letter.now ++ decimal second)))) }
     ensures cause { HasCause (K.faults sink.old) (K.faults sink.new) result }
 {
-    let letter = axis_word(axis);
     let mut earlier = Buffer::new();
     let mut later = Buffer::new();
     let earlier = earlier.format(first).as_bytes();
@@ -63,19 +74,19 @@ fn put_order<K: Sink>(
 // A bound of a leaf's coordinate, behind a space.
 fn put_bound<K: Sink>(
     sink: &mut K,
-    axis: Axis,
+    letter: &[u8],
     leaf: u64,
     sign: &[u8],
     number: u64,
 ) -> Result<(), Failed>
-    ensures text { Puts (K.held sink.old) (K.held sink.new) result (word (coordinate axis leaf ++ (sign.now ++ decimal number))) }
+    ensures text { Puts (K.held sink.old) (K.held sink.new) result (word ((letter.now ++ decimal leaf) ++ (sign.now ++ decimal number))) }
     ensures cause { HasCause (K.faults sink.old) (K.faults sink.new) result }
 {
     let mut place = Buffer::new();
     let mut limit = Buffer::new();
     let place = place.format(leaf).as_bytes();
     let limit = limit.format(number).as_bytes();
-    put_parts(sink, &[b" ", axis_word(axis), place, sign, limit])
+    put_parts(sink, &[b" ", letter, place, sign, limit])
 }
 
 // A hint with a space before it.
@@ -176,14 +187,13 @@ pub fn put_corner<K: Sink>(sink: &mut K, corner: Option<Pair>) -> Result<(), Fai
     }
 }
 
-#[tactic(auto, unfolding(Rattle::bp_document::specs::Lines::line))]
 fn put_corner_pair<K: Sink>(sink: &mut K, pair: Pair) -> Result<(), Failed>
-    ensures text { Puts (K.held sink.old) (K.held sink.new) result (corner_line (Option.Some pair)) }
+    ensures text { Puts (K.held sink.old) (K.held sink.new) result (corner_line (Some pair)) }
     ensures cause { HasCause (K.faults sink.old) (K.faults sink.new) result }
 {
     let mut i = Buffer::new();
     let mut j = Buffer::new();
     let i = i.format(pair.i).as_bytes();
     let j = j.format(pair.j).as_bytes();
-    put_parts(sink, &[b"corner ", i, b" ", j, b"\n"])
+    put_two_words(sink, b"corner", i, j)
 }

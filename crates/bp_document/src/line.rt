@@ -57,8 +57,9 @@ fn put_strip<K: Sink>(sink: &mut K, width: u64) -> Result<(), Failed>
     put_two_words(sink, b"sheet", b"strip", buffer.format(width).as_bytes())
 }
 
+/// A keyword and two words.
 #[tactic(auto, unfolding(crate::specs::Lines::line))]
-fn put_two_words<K: Sink>(
+pub fn put_two_words<K: Sink>(
     sink: &mut K,
     keyword: &[u8],
     first: &[u8],
