@@ -1,0 +1,4 @@
+pub mod Facts
+pub mod Swaps
+pub mod Arranged
+pub mod Tests

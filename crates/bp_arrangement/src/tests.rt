@@ -1,0 +1,92 @@
+// Swaps of a star.
+ghost use Rattle.std.specs.Prelude.{◌≡◌, IfOk};
+
+use super::*;
+use bp_base::{Name, Pair, Sequence, Tree};
+use bp_metric::Metric;
+use std::alloc::Global;
+use std::test::Fail;
+
+fn named(text: &[u8]) -> Result<Name, Fail>
+    ensures { IfOk result (λ name. name ≡ text.now) }
+{
+    match Name::new(text) {
+        Some(name) => Ok(name),
+        None => Err(Fail::from("no name")),
+    }
+}
+
+// Seven leaves on one node: four of length 2, and three of length 1.
+fn star(alloc: Global) -> Result<Tree, Fail> {
+    let names = [
+        named(b"c")?,
+        named(b"p")?,
+        named(b"q")?,
+        named(b"r")?,
+        named(b"s")?,
+        named(b"t")?,
+        named(b"u")?,
+        named(b"v")?,
+    ];
+    let parents = Vec::from_slice(alloc, &[0; 8])?;
+    let lengths = Vec::from_slice(alloc, &[0, 2, 2, 2, 2, 1, 1, 1])?;
+    let names = Vec::from_slice(alloc, &names)?;
+    Ok(Tree::of(parents, lengths, names))
+}
+
+#[test]
+fn swaps(rt: HostRuntime) -> Result<(), Fail> {
+    let alloc = rt.alloc();
+    let metric = Metric::of(alloc, &star(alloc)?)?;
+    let pairs = |swap: [(u64, u64); 2]| swap.map(|(i, j)| Pair { i, j });
+    for (swap, wanted) in [
+        ([(3, 4), (5, 6)], true),
+        // both pairs the other way round
+        ([(7, 5), (4, 3)], true),
+        // leaves 1 and 2 are the corner
+        ([(1, 3), (5, 6)], false),
+        ([(5, 6), (3, 2)], false),
+        // a leaf twice
+        ([(3, 4), (4, 3)], false),
+        ([(5, 5), (3, 4)], false),
+        // other distances
+        ([(3, 5), (6, 7)], false),
+        // no leaf
+        ([(3, 4), (5, 8)], false),
+        ([(0, 3), (5, 6)], false),
+    ] {
+        assert!(rt;
+            is_admissible(&metric, 1, 2, &pairs(swap)) == wanted,
+            "{swap:?}"
+        );
+    }
+    assert!(rt; !is_admissible(&metric, 1, 2, &[]));
+    assert!(rt; head(&pairs([(7, 5), (4, 3)])) == Pair { i: 3, j: 4 });
+    Ok(())
+}
+
+#[test]
+fn lists_of_swaps(rt: HostRuntime) -> Result<(), Fail> {
+    let alloc = rt.alloc();
+    let metric = Metric::of(alloc, &star(alloc)?)?;
+    law_of_arrangement(&metric);
+    law_of_denials();
+    law_of_codes();
+    for ((a, b), wanted) in [
+        ((1, 2), true),
+        ((7, 5), true),
+        ((3, 3), false),
+        ((0, 1), false),
+        ((1, 8), false),
+    ] {
+        assert!(rt; is_corner(&metric, a, b) == wanted);
+    }
+    let mut swaps = Vec::new(alloc);
+    for (i, j) in [(3, 4), (6, 5), (5, 3)] {
+        assert!(rt; first_inadmissible(&metric, 1, 2, &swaps).is_none());
+        swaps.push(Sequence::from_vec(Vec::from_slice(alloc, &[Pair { i, j }])?))?;
+    }
+    assert!(rt; first_inadmissible(&metric, 1, 2, &swaps) == Some(3));
+    assert!(rt; first_inadmissible(&metric, 1, 6, &swaps) == Some(2));
+    Ok(())
+}
