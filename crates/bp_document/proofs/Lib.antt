@@ -26,5 +26,5 @@ pub mod LongLines
 pub mod ReadBytes
 pub mod Nodes
 pub mod Leaves
-mod Parts
+pub mod BodyParts
 mod Counts

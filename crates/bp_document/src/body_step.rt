@@ -48,8 +48,8 @@ pub fn feed_proof(parts: Parts, m: u64, side: u64, bytes: &[u8]) -> Result<Stage
     }
 }
 
-// The head of these parts, with its floor and the number of its nodes.
-fn head_of(parts: Parts, m: u64, side: u64, proof: Option<u64>) -> Head
+/// The head of these parts, with its floor and the number of its nodes.
+pub fn head_of(parts: Parts, m: u64, side: u64, proof: Option<u64>) -> Head
     ensures { result ≡ record (head_of parts m side) { proof = proof } }
 {
     let leaves = parts.leaves.into_sequence();

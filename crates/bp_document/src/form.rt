@@ -26,8 +26,8 @@ pub struct FloorForm {
     pub leaves: Chain,
 }
 
-// The number of the word, where it is within these bounds.
-fn number_within(word: &[u8], least: u64, most: u64) -> Option<u64>
+/// The number of the word, where it is within these bounds.
+pub fn number_within(word: &[u8], least: u64, most: u64) -> Option<u64>
     requires { most ≤ most_number }
     ensures { ReadsNumber least most word.now result }
 {

@@ -24,14 +24,22 @@ mod start_step;
 mod step;
 mod write;
 
+pub use body_step::head_of;
+pub use cut::{next_word, split_word};
 pub use document::Document;
 pub use fault::{DocFault, DocKind, ReadDoc};
+pub use form::{field_of, number_within, sheet_form};
 pub use head::Head;
 pub use laws::{law_of_long_lines, law_of_one_answer};
-pub use node_line::{NodeKind, NodeLine};
+pub use line::{axis_word, put_end, put_field, put_floor, put_keyword, put_sheet, put_two_words};
+pub use node_line::{NodeKind, NodeLine, axis_of};
+pub use points::put_points;
 pub use read::read_document;
+pub use room::Room;
 pub use scanner::Scanner;
-pub use write::write_document;
+pub use stage::{Fall, Memory, Parts, Stage, Step};
+pub use step::take_line;
+pub use write::{put_edges, write_document};
 
 #[cfg(test)]
 mod tests;

@@ -10,7 +10,7 @@ use bp_base::{Axis, Chain, Failed, Floor, Pair, Point, Sheet, Sink, Tree};
 use bp_text::{put, put_parts};
 use itoa::Buffer;
 
-// A keyword and a word.
+/// A keyword and a word.
 #[tactic(auto, unfolding(crate::specs::Lines::line))]
 pub fn put_keyword<K: Sink>(sink: &mut K, keyword: &[u8], word: &[u8]) -> Result<(), Failed>
     ensures text { Puts (K.held sink.old) (K.held sink.new) result (line keyword.now (word.now ∷ [])) }
@@ -19,7 +19,7 @@ pub fn put_keyword<K: Sink>(sink: &mut K, keyword: &[u8], word: &[u8]) -> Result
     put_parts(sink, &[keyword, b" ", word, b"\n"])
 }
 
-// A keyword and a number.
+/// A keyword and a number.
 pub fn put_field<K: Sink>(sink: &mut K, keyword: &[u8], number: u64) -> Result<(), Failed>
     ensures text { Puts (K.held sink.old) (K.held sink.new) result (line keyword.now (decimal number ∷ [])) }
     ensures cause { HasCause (K.faults sink.old) (K.faults sink.new) result }
@@ -28,6 +28,7 @@ pub fn put_field<K: Sink>(sink: &mut K, keyword: &[u8], number: u64) -> Result<(
     put_keyword(sink, keyword, buffer.format(number).as_bytes())
 }
 
+/// The line `end`.
 #[tactic(auto, unfolding(crate::specs::Lines::line))]
 pub fn put_end<K: Sink>(sink: &mut K) -> Result<(), Failed>
     ensures text { Puts (K.held sink.old) (K.held sink.new) result (line (codes "end") []) }
@@ -36,6 +37,7 @@ pub fn put_end<K: Sink>(sink: &mut K) -> Result<(), Failed>
     put(sink, b"end\n")
 }
 
+/// The line of a sheet.
 #[tactic(auto, unfolding(crate::specs::Lines::line))]
 pub fn put_sheet<K: Sink>(sink: &mut K, sheet: Sheet) -> Result<(), Failed>
     ensures text { Puts (K.held sink.old) (K.held sink.new) result (sheet_line sheet) }
@@ -55,8 +57,9 @@ fn put_strip<K: Sink>(sink: &mut K, width: u64) -> Result<(), Failed>
     put_two_words(sink, b"sheet", b"strip", buffer.format(width).as_bytes())
 }
 
+/// A keyword and two words.
 #[tactic(auto, unfolding(crate::specs::Lines::line))]
-fn put_two_words<K: Sink>(
+pub fn put_two_words<K: Sink>(
     sink: &mut K,
     keyword: &[u8],
     first: &[u8],
@@ -114,6 +117,7 @@ pub fn put_split<K: Sink>(sink: &mut K, depth: u64, pair: Pair) -> Result<(), Fa
     put_parts(sink, &[depth, b" split ", i, b" ", j, b"\n"])
 }
 
+/// The letter of an axis.
 pub fn axis_word(axis: Axis) -> &'static [u8]
     ensures { result.now ≡ axis_word axis }
 {
@@ -163,6 +167,7 @@ fn put_floor_start<K: Sink>(sink: &mut K, floor: &Floor) -> Result<(), Failed>
     put_parts(sink, &[b"floor ", m, b" ", side])
 }
 
+/// The line of a floor.
 pub fn put_floor<K: Sink>(sink: &mut K, floor: &Floor) -> Result<(), Failed>
     ensures text { Puts (K.held sink.old) (K.held sink.new) result (floor_line floor.now) }
     ensures cause { HasCause (K.faults sink.old) (K.faults sink.new) result }

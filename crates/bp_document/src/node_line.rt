@@ -87,7 +87,8 @@ fn chain_on(alloc: Global, bytes: &[u8]) -> Option<(Axis, Chain)>
     Some((axis, chain))
 }
 
-fn axis_of(word: &[u8]) -> Option<Axis>
+/// The axis of a word.
+pub fn axis_of(word: &[u8]) -> Option<Axis>
     ensures { ReadsAxis word.now result }
 {
     if word == b"x".as_slice() {

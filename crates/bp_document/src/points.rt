@@ -10,7 +10,7 @@ ghost use Rattle.bp_text.specs.Puts.{Puts};
 use crate::line::{name_at, put_point};
 use bp_base::{Failed, Point, Sink, Tree};
 
-// A line for each leaf. Leaves are counted on the way, so that no list of them is needed.
+/// A line for each leaf. Leaves are counted on the way, so that no list of them is needed.
 pub fn put_points<K: Sink>(sink: &mut K, tree: &Tree, points: &[Point]) -> Result<(), Failed>
     requires { length points.now ≡ leaf_count tree.now }
     ensures text { Puts (K.held sink.old) (K.held sink.new) result (point_lines tree.now points.now) }

@@ -5,7 +5,7 @@ ghost use Rattle.bp_document.specs.Stages.{told_head};
 
 use crate::room::Room;
 use crate::stage::{Memory, Stage};
-use crate::step::step;
+use crate::step::take_line;
 use crate::{DocFault, DocKind, Head, NodeLine};
 use bp_base::NoMemory;
 use bp_tree::Grower;
@@ -64,7 +64,7 @@ impl Scanner {
     {
         let number = self.lines + 1;
         let stage = mem::replace(&mut self.stage, Stage::Broken { told: None });
-        match step(self.alloc, stage, line, ended) {
+        match take_line(self.alloc, stage, line, ended) {
             Ok(step) => {
                 self.stage = step.stage;
                 self.lines = number;

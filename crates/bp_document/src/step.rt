@@ -12,7 +12,7 @@ use crate::{DocKind, Head};
 use std::alloc::Global;
 
 /// What a line does, which has its LF or not.
-pub fn step(alloc: Global, stage: Stage, bytes: &[u8], ended: bool) -> Result<Step, Fall>
+pub fn take_line(alloc: Global, stage: Stage, bytes: &[u8], ended: bool) -> Result<Step, Fall>
     ensures { Steps stage bytes.now ended result }
 {
     if !ended {

@@ -49,7 +49,8 @@ fn put_start<K: Sink>(sink: &mut K, document: &Document) -> Result<(), Failed>
     put_field(sink, b"bound", document.bound)
 }
 
-fn put_edges<K: Sink>(sink: &mut K, tree: &Tree) -> Result<(), Failed>
+/// The lines of the edges.
+pub fn put_edges<K: Sink>(sink: &mut K, tree: &Tree) -> Result<(), Failed>
     ensures text { Puts (K.held sink.old) (K.held sink.new) result (edge_lines tree.now) }
     ensures cause { HasCause (K.faults sink.old) (K.faults sink.new) result }
 {

@@ -3,7 +3,7 @@ use Rattle.std.specs.Prelude.{codes}
 use Rattle.bp_text.proofs.Puts.{puts_first, puts_exit, puts_last, writes_more}
 use Rattle.bp_document.specs.Lines.{line, floor_line}
 use Rattle.bp_document.specs.Text.{point_lines, proof_lines}
-use Rattle.bp_document.proofs.Parts.{body_first, body_last, point_lines_of}
+use Rattle.bp_document.proofs.BodyParts.{body_first, body_last, point_lines_of}
 use Rattle.bp_document.proofs.write.put_body.Goals as goal
 
 pub returns-in_err-put_start-clause-text : goal.returns-in_err-put_start-clause-text

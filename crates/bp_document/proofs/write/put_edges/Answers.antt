@@ -2,7 +2,7 @@ use Rattle.std.specs.List.{flat_map}
 use Rattle.bp_base.specs.Tree.{edges}
 use Rattle.bp_text.proofs.Puts.{puts_first, puts_last}
 use Rattle.bp_document.specs.Lines.{edge_line}
-use Rattle.bp_document.proofs.Parts.{edge_lines_of}
+use Rattle.bp_document.proofs.BodyParts.{edge_lines_of}
 use Rattle.bp_document.proofs.write.put_edges.Goals as goal
 
 pub returns-in_err-put_field-clause-text : goal.returns-in_err-put_field-clause-text

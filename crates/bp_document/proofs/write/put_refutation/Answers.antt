@@ -1,5 +1,5 @@
 use Rattle.bp_text.proofs.Puts.{puts_last}
-use Rattle.bp_document.proofs.Parts.{refutation_lines}
+use Rattle.bp_document.proofs.BodyParts.{refutation_lines}
 use Rattle.bp_document.proofs.write.put_refutation.Goals as goal
 
 pub returns-clause-text : goal.returns-clause-text

@@ -5,7 +5,7 @@ use Rattle.bp_document.specs.declared.stage.Stage.{Stage}
 use Rattle.bp_document.specs.Places.{next_leaf}
 use Rattle.bp_document.specs.Stages.{head_of}
 use Rattle.bp_document.proofs.Leads.{cut_steps, plain_at, plain_steps, gives_point}
-use Rattle.bp_document.proofs.step.step.Goals as goal
+use Rattle.bp_document.proofs.step.take_line.Goals as goal
 
 pub returns-then-not-ended : goal.returns-then-not-ended
 returns-then-not-ended c = cut_steps c.args.stage c.args.bytes.now c.args.ended c.cut.result c.if-not-ended.true c.cut.ensures
