@@ -8,7 +8,8 @@ use Rattle.bp_tree.specs.declared.fault.TreeKind.TheVariants.{TooLong, BadJson, 
 use Rattle.bp_tree.specs.Lines.{words_of, word}
 use Rattle.bp_tree.specs.Edges.{edge_words, IsLength}
 use Rattle.bp_tree.specs.Faults.{HasKind, IsKind, HasElementKind, IsElementKind, LacksUpper, RepeatsLower, IsFull, order}
-use Rattle.bp_tree.specs.Growing.{AddsEdge, AddsLine, AddsElement, IsEdgeLine, JudgesElement}
+use Rattle.bp_tree.specs.Calls.{IsEdgeLine, AddsLine, JudgesElement, AddsElement}
+use Rattle.bp_tree.specs.Growing.{AddsEdge}
 
 module _ (line : List ℕ) (e : Edge) (is : IsEdgeLine line e) (names : List (List ℕ)) where
   word_is : (i : ℕ) → word (words_of line) i ≡ word (edge_words e) i

@@ -9,8 +9,8 @@ use Rattle.bp_tree.specs.declared.fault.TreeKind.{TreeKind}
 use Rattle.bp_tree.specs.declared.fault.TreeKind.TheVariants.{TooLong, BadJson, BadShape, BadByte, WordCount, BadName, BadLength, UnknownParent, RepeatedName, TooManyNodes, Empty, RootIsLeaf, TooManyLeaves}
 use Rattle.bp_tree.specs.Lines.{content, words_of, rows, word}
 use Rattle.bp_tree.specs.Edges.{HasEdges, IsGrowing, IsLength, edge_words, uppers, lowers, lengths}
-use Rattle.bp_tree.specs.Faults.{HasKind, HasFault, IsElementKind, IsFirstElementFault, LacksUpper, RepeatsLower, IsFull, line_at, names_of, HasElementKind, HasElementFault, element_at}
-use Rattle.bp_tree.specs.Growing.{GrewFrom}
+use Rattle.bp_tree.specs.Faults.{HasKind, HasFault, IsElementKind, IsFirstElementFault, LacksUpper, RepeatsLower, IsFull, line_at, names_in, HasElementKind, HasElementFault, element_at}
+use Rattle.bp_tree.specs.Calls.{GrewFrom}
 use Rattle.bp_tree.proofs.Rows.{rows_append, rows_cons, names_edges, Parted, parted}
 use Rattle.bp_tree.proofs.TextBytes.{text_bytes}
 use Rattle.bp_tree.proofs.Growth.{edge_count}
@@ -161,12 +161,12 @@ around {A} xs n j d fits less =
     ∙ ap (λ (l : List A). take j xs ++ l) (drop_more (take n xs) j d long ∙ ap (λ (x : A). x ∷ drop (j + 1) (take n xs)) (get_or-take n xs j d less))
 
 -- an edge's line has no fault behind the edges before it
-line_faultless : (T : TreeValue) → IsGrowing T → (es : List Edge) → HasEdges T es → (before after : List (List ℕ)) (x : List ℕ) → rows before ++ words_of x ∷ rows after ≡ map edge_words es → (kind : TreeKind) → HasKind (names_of (rows before)) x kind → ⊥
+line_faultless : (T : TreeValue) → IsGrowing T → (es : List Edge) → HasEdges T es → (before after : List (List ℕ)) (x : List ℕ) → rows before ++ words_of x ∷ rows after ≡ map edge_words es → (kind : TreeKind) → HasKind (names_in (rows before)) x kind → ⊥
 line_faultless T t es has before after x given kind fault = go (parted es (rows before) (rows after) (words_of x) given)
   where
     go : Parted es (rows before) (rows after) (words_of x) → ⊥
     go p =
-        let names_is = ap names_of p.front_is ∙ names_edges p.front in
+        let names_is = ap names_in p.front_is ∙ names_edges p.front in
         faultless T t p.front p.back p.here (subst (HasEdges T) p.is has) x p.here_is kind (subst (λ (ns : List (List ℕ)). HasKind ns x kind) names_is fault)
 
 -- none of the first n lines has a fault, where they give the edges of a growing tree
@@ -179,7 +179,7 @@ no_fault lines n T t fits (es, given, has) m kind before (row, fault) = go (m - 
         let some : words_of (get_or lines j []) ≡ [] → ⊥ = λ none. row.worded (ap words_of x_is ∙ none) in
         let split : rows (take n lines) ≡ rows (take j lines) ++ words_of (get_or lines j []) ∷ rows (drop (j + 1) (take n lines)) =
         ap rows (around lines n j [] fits less) ∙ rows_append (take j lines) (get_or lines j [] ∷ drop (j + 1) (take n lines)) ∙ ap (λ (r : List (List (List ℕ))). rows (take j lines) ++ r) (rows_cons (get_or lines j []) (drop (j + 1) (take n lines)) some) in
-        let fault' = subst (λ (i : ℕ). HasKind (names_of (rows (take i lines))) (get_or lines i []) kind) is fault in
+        let fault' = subst (λ (i : ℕ). HasKind (names_in (rows (take i lines))) (get_or lines i []) kind) is fault in
         line_faultless T t es has (take j lines) (drop (j + 1) (take n lines)) (get_or lines j []) (sym split ∙ given) kind fault'
 
 -- none of the first n elements has a fault, where they are the edges of a growing tree

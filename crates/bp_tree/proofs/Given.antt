@@ -8,7 +8,7 @@ use Rattle.bp_tree.specs.Lines.{lines_of}
 use Rattle.bp_tree.specs.Edges.{HasEdges, IsGrowing, edge_words}
 use Rattle.bp_tree.specs.Text.{GivesIn}
 use Rattle.bp_tree.specs.Faults.{HasFaultIn, IsFirstIn}
-use Rattle.bp_tree.specs.Growing.{GrewFrom}
+use Rattle.bp_tree.specs.Calls.{GrewFrom}
 use Rattle.bp_tree.proofs.OneTree.{same_edges}
 use Rattle.bp_tree.proofs.Faultless.{no_fault, no_element_fault}
 use Rattle.bp_tree.proofs.JsonForm.{one_given, given_fault}

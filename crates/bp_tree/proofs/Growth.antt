@@ -15,7 +15,8 @@ use Rattle.bp_tree.specs.declared.edge.Edge.{Edge}
 use Rattle.bp_tree.specs.Edges.{HasEdges, IsGrowing, IsLength, uppers, lowers, lengths}
 use Rattle.bp_tree.specs.declared.fault.TreeKind.{TreeKind}
 use Rattle.bp_tree.specs.declared.fault.TreeKind.TheVariants.{TooLong, BadJson, BadShape, BadByte, WordCount, BadName, BadLength, UnknownParent, RepeatedName, TooManyNodes, Empty, RootIsLeaf, TooManyLeaves}
-use Rattle.bp_tree.specs.Growing.{no_nodes, with_node, IsPlaceFor, FindsParent, AddsEdge}
+use Rattle.bp_tree.specs.Calls.{with_node, IsPlaceFor, FindsParent}
+use Rattle.bp_tree.specs.Growing.{no_nodes, AddsEdge}
 
 module _ (T : TreeValue) (t : IsGrowing T) (p l : ℕ) (name : List ℕ) where
   -- the first node is the root; each other has a parent and a length

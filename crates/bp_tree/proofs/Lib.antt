@@ -13,3 +13,4 @@ pub mod Given
 pub mod Whole
 pub mod ReadBack
 pub mod OneFault
+pub mod EitherWay

@@ -7,7 +7,7 @@ use Rattle.std.proofs.lemmas.Fmt.{decimal_injective}
 use Rattle.bp_tree.specs.declared.edge.Edge.{Edge}
 use Rattle.bp_tree.specs.Lines.{words_of, rows, word}
 use Rattle.bp_tree.specs.Edges.{edge_words, uppers, lowers}
-use Rattle.bp_tree.specs.Faults.{names_of}
+use Rattle.bp_tree.specs.Faults.{names_in}
 
 abbrev has_words : List (List ℕ) → Bool
 has_words ws = ltb 0 (length ws)
@@ -30,7 +30,7 @@ pub rows_more : (lines : List (List ℕ)) (n : ℕ) → n < length lines → row
 rows_more lines n less = ap rows (take_more lines n [] less) ∙ rows_append (take n lines) (get_or lines n [] ∷ [])
 
 -- the names of rows that are edges
-pub names_edges : (es : List Edge) → names_of (map edge_words es) ≡ take 1 (uppers es) ++ lowers es
+pub names_edges : (es : List Edge) → names_in (map edge_words es) ≡ take 1 (uppers es) ++ lowers es
 names_edges es = ap (λ (us : List (List ℕ)). take 1 us ++ map (λ words. word words 1) (map edge_words es)) (firsts es) ∙ ap (λ (ls : List (List ℕ)). take 1 (uppers es) ++ ls) (seconds es)
   where
     firsts : (fs : List Edge) → map (λ words. word words 0) (map edge_words fs) ≡ uppers fs

@@ -7,8 +7,9 @@ use Rattle.bp_text.specs.Lines.{IsLineAt}
 use Rattle.bp_tree.specs.declared.fault.TreeKind.{TreeKind}
 use Rattle.bp_tree.specs.Lines.{lines_of, words_of, rows}
 use Rattle.bp_tree.specs.Edges.{HasEdges, IsGrowing, edge_words}
-use Rattle.bp_tree.specs.Faults.{IsKind, IsFirstFault, names_of, names_before, line_at}
-use Rattle.bp_tree.specs.Growing.{AddsLine, GrewFrom, no_nodes}
+use Rattle.bp_tree.specs.Faults.{IsKind, IsFirstFault, names_in, names_before, line_at}
+use Rattle.bp_tree.specs.Calls.{AddsLine, GrewFrom}
+use Rattle.bp_tree.specs.Growing.{no_nodes}
 use Rattle.bp_tree.proofs.LineLists.{line_cut, lines_none}
 use Rattle.bp_tree.proofs.Rows.{rows_more, rows_skipped, rows_cons, names_edges}
 use Rattle.bp_tree.proofs.Faultless.{no_fault}
@@ -66,12 +67,12 @@ module _ (bytes : List ℕ) (at number : ℕ) (T : TreeValue) (so_far : ReadSoFa
     read_fault t T' n kind count (some, fault) =
         let back : n - 1 ≡ number = omega arith in
         let here : line_at (lines_of bytes) n ≡ piece = ap (λ (k : ℕ). get_or (lines_of bytes) k []) back ∙ line_is in
-        let names : names_before (lines_of bytes) n ≡ T.names = ap (λ (k : ℕ). names_of (rows (take k (lines_of bytes)))) back ∙ names_are so_far.grew in
+        let names : names_before (lines_of bytes) n ≡ T.names = ap (λ (k : ℕ). names_in (rows (take k (lines_of bytes)))) back ∙ names_are so_far.grew in
         record {
           row = record { from = omega arith; to = omega (arith, there); worded = λ none. some (ap words_of (sym here) ∙ none) };
           has = subst (λ (x : List ℕ). IsKind (names_before (lines_of bytes) n) x kind) (sym here) (subst (λ (ns : List (List ℕ)). IsKind ns piece kind) (sym names) fault);
           before = λ m other earlier had. no_fault (lines_of bytes) number T t so_far.counted so_far.grew m other (omega arith) had;
         }
       where
-        names_are : GrewFrom (take number (lines_of bytes)) T → names_of (rows (take number (lines_of bytes))) ≡ T.names
-        names_are (es, given, has) = ap names_of given ∙ names_edges es ∙ sym has.names
+        names_are : GrewFrom (take number (lines_of bytes)) T → names_in (rows (take number (lines_of bytes))) ≡ T.names
+        names_are (es, given, has) = ap names_in given ∙ names_edges es ∙ sym has.names

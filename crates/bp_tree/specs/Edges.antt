@@ -19,10 +19,14 @@ lowers es = map (λ (e : Edge). e.lower) es
 abbrev pub lengths : List Edge → List ℕ
 lengths es = map (λ (e : Edge). e.length) es
 
--- These are the edges of T, in node order: T's names are the first upper name and then all lower names,
+-- the names that edges make: the first upper name, and all lower names
+abbrev pub names_of : List Edge → List (List ℕ)
+names_of es = take 1 (uppers es) ++ lowers es
+
+-- These are the edges of T, in node order: T's names are those that they make,
 -- each upper name is the parent's, and the lengths are those of T.
 pub record HasEdges (T : TreeValue) (es : List Edge) : Type 0 where
-  pub names : T.names ≡ take 1 (uppers es) ++ lowers es
+  pub names : T.names ≡ names_of es
   pub uppers : map (name_of T) (drop 1 T.parents) ≡ uppers es
   pub lengths : drop 1 T.lengths ≡ lengths es
 

@@ -11,7 +11,7 @@ use Rattle.bp_tree.specs.declared.fault.TreeFault.{TreeFault}
 use Rattle.bp_tree.specs.declared.fault.ReadTree.{ReadTree}
 use Rattle.bp_tree.specs.declared.fault.ReadTree.TheVariants.{Fault, NoMemory}
 use Rattle.bp_tree.specs.Lines.{lines_of, content, words_of, rows, word, is_text_byte}
-use Rattle.bp_tree.specs.Edges.{HasEdges, IsGrowing, IsLength, uppers, lowers, root_children}
+use Rattle.bp_tree.specs.Edges.{HasEdges, IsGrowing, IsLength, names_of, root_children}
 use Rattle.bp_tree.specs.Json.{is_json, GivesElements, HasNoValue, HasNoElements}
 use Rattle.bp_tree.specs.Text.{GivesEdges, TreeOf}
 
@@ -55,8 +55,8 @@ pub record IsKind (names : List (List ℕ)) (line : List ℕ) (kind : TreeKind) 
   pub first : (other : TreeKind) → order other < order kind → HasKind names line other → ⊥
 
 -- the names that these rows make: the first upper name, and all lower names
-abbrev pub names_of : List (List (List ℕ)) → List (List ℕ)
-names_of rs = take 1 (map (λ words. word words 0) rs) ++ map (λ words. word words 1) rs
+abbrev pub names_in : List (List (List ℕ)) → List (List ℕ)
+names_in rs = take 1 (map (λ words. word words 0) rs) ++ map (λ words. word words 1) rs
 
 -- the line of number n, counted from 1
 abbrev pub line_at : List (List ℕ) → ℕ → List ℕ
@@ -64,7 +64,7 @@ line_at lines n = slice_index_or lines (n - 1) []
 
 -- the names that the lines before line n make
 abbrev pub names_before : List (List ℕ) → ℕ → List (List ℕ)
-names_before lines n = names_of (rows (take (n - 1) lines))
+names_before lines n = names_in (rows (take (n - 1) lines))
 
 -- line n is one with words
 pub record IsRow (lines : List (List ℕ)) (n : ℕ) : Type 0 where
@@ -96,10 +96,6 @@ pub record IsElementKind (names : List (List ℕ)) (e : Edge) (kind : TreeKind) 
   pub has : HasElementKind names e kind
   pub first : (other : TreeKind) → order other < order kind → HasElementKind names e other → ⊥
 
--- the names that elements make
-abbrev pub names_made : List Edge → List (List ℕ)
-names_made es = take 1 (uppers es) ++ lowers es
-
 -- the element of number n, counted from 1
 abbrev pub element_at : List Edge → ℕ → Edge
 element_at es n = slice_index_or es (n - 1) (record { upper = []; lower = []; length = 0 })
@@ -109,12 +105,12 @@ IsElement es n = (1 ≤ n) × (n ≤ length es)
 
 -- element n has this fault
 abbrev pub HasElementFault : List Edge → ℕ → TreeKind → Type 0
-HasElementFault es n kind = IsElement es n × HasElementKind (names_made (take (n - 1) es)) (element_at es n) kind
+HasElementFault es n kind = IsElement es n × HasElementKind (names_of (take (n - 1) es)) (element_at es n) kind
 
 -- The first element with a fault is element n, and this kind is the first that it has.
 pub record IsFirstElementFault (es : List Edge) (n : ℕ) (kind : TreeKind) : Type 0 where
   pub element : IsElement es n
-  pub has : IsElementKind (names_made (take (n - 1) es)) (element_at es n) kind
+  pub has : IsElementKind (names_of (take (n - 1) es)) (element_at es n) kind
   pub before : (m : ℕ) (other : TreeKind) → m < n → HasElementFault es m other → ⊥
 
 -- the first fault of bytes in the JSON form: of the whole value in line 0, or else of an element
@@ -169,8 +165,9 @@ IsOnlyAnswer bytes (Ok T) = ((U : TreeValue) → TreeOf bytes U → U ≡ T) × 
 IsOnlyAnswer bytes (Err (Fault f)) = (g : TreeFault) → IsTreeFault bytes g → g ≡ f
 IsOnlyAnswer bytes (Err NoMemory) = Unit
 
--- Bytes are those of at most one tree, or have at most one first fault, and not both.
+-- Bytes are those of one tree or have one first fault, and not both; neither can't be.
 pub record HasOneAnswer (bytes : List ℕ) : Type 0 where
   pub tree : (T U : TreeValue) → TreeOf bytes T → TreeOf bytes U → T ≡ U
   pub either : (T : TreeValue) (f : TreeFault) → TreeOf bytes T → IsTreeFault bytes f → ⊥
   pub fault : (f g : TreeFault) → IsTreeFault bytes f → IsTreeFault bytes g → f ≡ g
+  pub some : IsNoTree bytes → ((f : TreeFault) → IsTreeFault bytes f → ⊥) → ⊥

@@ -1,7 +1,7 @@
 ghost use Rattle.std.specs.Prelude.{ℕ, MatchOption};
 ghost use Rattle.bp_text.specs.Numbers.{IsNumber};
 ghost use Rattle.bp_tree.specs.Edges.{IsLength};
-ghost use Rattle.bp_tree.specs.Growing.{ReadsEdge};
+ghost use Rattle.bp_tree.specs.Calls.{ReadsEdge};
 
 use crate::TreeKind;
 use crate::words::{content, is_text, next_word};

@@ -1,7 +1,8 @@
 ghost use Rattle.std.specs.Prelude.{◌≡◌, ◌<◌, ◌≤◌, ◌↔◌, [], IsTrue, OnErr, IfOk, MatchOption, Contains, length, slice_index_or};
 ghost use Rattle.bp_base.specs.Name.{IsName};
 ghost use Rattle.bp_tree.specs.Edges.{IsGrowing, IsLength};
-ghost use Rattle.bp_tree.specs.Growing.{AddsEdge, FindsParent, Finishes, no_nodes, with_node};
+ghost use Rattle.bp_tree.specs.Calls.{with_node, FindsParent};
+ghost use Rattle.bp_tree.specs.Growing.{AddsEdge, Finishes, no_nodes};
 
 use crate::leaves::{leaf_count, root_children};
 use crate::{Edge, TreeKind};

@@ -3,7 +3,8 @@ ghost use Rattle.std.specs.Prelude.{◌≡◌, true, map};
 ghost use Rattle.serde_json.specs.View.{view};
 ghost use Rattle.bp_tree.specs.Edges.{IsGrowing, IsLength};
 ghost use Rattle.bp_tree.specs.Json.{is_json, is_space};
-ghost use Rattle.bp_tree.specs.Growing.{AddsElement, AddsElements, JudgesElement, no_nodes};
+ghost use Rattle.bp_tree.specs.Calls.{JudgesElement, AddsElement, AddsElements};
+ghost use Rattle.bp_tree.specs.Growing.{no_nodes};
 ghost use Rattle.bp_tree.specs.Reading.{HasList, ReadsEdges, ReadsElement, ReadsElements, ReadsValue, edge_of};
 
 use crate::fault::of_the_whole;

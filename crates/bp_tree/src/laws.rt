@@ -4,7 +4,7 @@ ghost use Rattle.bp_base.specs.Tree.{TreeValue, IsTree};
 ghost use Rattle.bp_tree.specs.Faults.{HasOneAnswer};
 ghost use Rattle.bp_tree.specs.Text.{TreeOf, tree_text};
 
-/// Bytes are those of one tree at most, or have one first fault at most, and not both.
+/// Bytes are those of one tree, or have one first fault: never two of one kind, never both, and never neither.
 pub fn law_of_one_answer()
     ensures { (bytes : List ℕ) → HasOneAnswer bytes }
 {}

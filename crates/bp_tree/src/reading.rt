@@ -1,7 +1,8 @@
 ghost use Rattle.std.specs.Prelude.{◌≡◌};
 ghost use Rattle.bp_tree.specs.Edges.{IsGrowing};
 ghost use Rattle.bp_tree.specs.Faults.{IsOnlyAnswer, ReadsTree};
-ghost use Rattle.bp_tree.specs.Growing.{AddsLine, ReadsLines, no_nodes};
+ghost use Rattle.bp_tree.specs.Calls.{AddsLine, ReadsLines};
+ghost use Rattle.bp_tree.specs.Growing.{no_nodes};
 ghost use Rattle.bp_tree.specs.Reading.{ReadsEdges};
 ghost use Rattle.bp_tree.specs.Json.{is_json};
 ghost use Rattle.bp_tree.specs.Lines.{lines_of};
