@@ -80,7 +80,8 @@ pub fn reason_before_proof(
     None
 }
 
-fn are_same(tree: &Tree, other: &Tree) -> bool
+/// Whether two trees are the same.
+pub fn are_same(tree: &Tree, other: &Tree) -> bool
     ensures { IsTrue result ↔ (other.now ≡ tree.now) }
 {
     if tree.parents() != other.parents() {

@@ -12,7 +12,7 @@ mod streaming;
 mod verdict;
 mod walk;
 
-pub use checking::check;
+pub use checking::{are_same, check};
 pub use fault::{CheckFault, Streamed};
 pub use laws::{checks_without_reason, has_reason, law_of_checks, one_reason};
 pub use streaming::check_source;

@@ -1,0 +1,3 @@
+pub mod Certifies
+pub mod Reasons
+pub mod Verdicts

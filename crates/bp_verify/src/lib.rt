@@ -1,0 +1,9 @@
+//! What a right certificate is: the conditions that a verifier tests, and the first of them that fails.
+#![tactic(auto)]
+
+mod judging;
+mod laws;
+mod verdict;
+
+pub use laws::{certifies_without_reason, law_of_certificates, one_reason};
+pub use verdict::{Reason, Verdict};
