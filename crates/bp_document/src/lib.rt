@@ -27,10 +27,10 @@ mod write;
 pub use document::Document;
 pub use fault::{DocFault, DocKind, ReadDoc};
 pub use head::Head;
-pub use laws::{law_of_long_lines, law_of_one_answer};
+pub use laws::{law_of_long_lines, law_of_one_answer, law_of_sizes};
 pub use node_line::{NodeKind, NodeLine};
 pub use read::read_document;
-pub use scanner::Scanner;
+pub use scanner::{MOST_LINE, Scanner};
 pub use write::write_document;
 
 #[cfg(test)]
