@@ -1,4 +1,4 @@
--- What a pass answers at the end of the input.
+-- What an intake answers at the end of the input.
 use Rattle.std.proofs.Common.{◌≡◌, ℕ, ◌<◌, ◌≤◌, inl, true, false, List, [], ◌++◌, ◌==◌, length, Option, None, Some, Result, Ok, Err, refl, sym, ◌∙◌, ap, subst}
 use Rattle.std.proofs.lemmas.Bool.{true≢false}
 use Rattle.std.proofs.lemmas.Bool.Decides.{Decides-eqb}
@@ -22,14 +22,14 @@ use Rattle.bp_document.specs.Told.{IsProofTold, IsToldBy, node_list}
 use Rattle.bp_document.proofs.ReadBytes.{cut_fault, fault_at}
 use Rattle.bp_check.specs.declared.fault.Streamed.{Streamed}
 use Rattle.bp_check.specs.declared.found.Found.{Found}
-use Rattle.bp_check.specs.declared.pass.Pass.{Pass}
+use Rattle.bp_check.specs.declared.intake.Intake.{Intake}
 use Rattle.bp_check.specs.declared.stack.Stack.{Stack}
 use Rattle.bp_check.specs.declared.verdict.Reason.{Reason}
 use Rattle.bp_check.specs.Stack.{HasTaken}
 use Rattle.bp_check.specs.Verdicts.{HasParts, IsFoundOf, IsReasonBeforeProof, IsVerdictOf, verdict_of}
-use Rattle.bp_check.specs.Pass.{HasFaultIn, PassedTo, HasPassed, IsScanned, IsWhole, EndsPass}
-use Rattle.bp_check.specs.Streams.{ChecksText, IsRefused, AnswersText}
-use Rattle.bp_check.proofs.Passing.{held_fault, held_none, held_some, passed_whole}
+use Rattle.bp_check.specs.Intake.{HasLineFault, TakenInTo, HasTakenIn, IsScanned, IsWhole, EndsIntake, AnswersText}
+use Rattle.bp_check.specs.Streams.{ChecksText, IsRefused}
+use Rattle.bp_check.proofs.Intakes.{held_fault, held_none, held_some, taken_in_whole}
 use Rattle.bp_check.proofs.Reasoning.{yes_is, no_is}
 
 -- a fault leaves no document
@@ -39,24 +39,24 @@ refuse bytes f one fault = record { fault = fault; none = λ D is. one.either D 
 pub too_long : (T : TreeValue) (bytes : List ℕ) → HasOneAnswer bytes → most_document_bytes < length bytes → AnswersText T bytes (Err (record { line = 0; kind = TooLong }))
 too_long T bytes one long = refuse bytes (record { line = 0; kind = TooLong }) one (inl (long, refl))
 
-pub fault_in : (T : TreeValue) (p : Pass) (bytes : List ℕ) (f : DocFault) → HasOneAnswer bytes → length bytes ≤ most_document_bytes → p.fault ≡ Some f → HasPassed T p bytes → AnswersText T bytes (Err f)
+pub fault_in : (T : TreeValue) (p : Intake) (bytes : List ℕ) (f : DocFault) → HasOneAnswer bytes → length bytes ≤ most_document_bytes → p.fault ≡ Some f → HasTakenIn T p bytes → AnswersText T bytes (Err f)
 fault_in T p bytes f one short is passed =
-    let there : HasFaultIn bytes f = subst (PassedTo T p bytes) is passed in
+    let there : HasLineFault bytes f = subst (TakenInTo T p bytes) is passed in
     refuse bytes f one (fault_at bytes there.text there.line true f short there.stands there.free there.fault (λ behind none ended. true≢false ended))
 
-pub fault_at_end : (T : TreeValue) (p q : Pass) (bytes : List ℕ) (f : DocFault) → HasOneAnswer bytes → length bytes ≤ most_document_bytes → EndsPass p q (Err f) → HasPassed T p bytes → AnswersText T bytes (Err f)
+pub fault_at_end : (T : TreeValue) (p q : Intake) (bytes : List ℕ) (f : DocFault) → HasOneAnswer bytes → length bytes ≤ most_document_bytes → EndsIntake p q (Err f) → HasTakenIn T p bytes → AnswersText T bytes (Err f)
 fault_at_end T p q bytes f one short ends passed = refuse bytes f one (ends T bytes passed short)
 
 -- the end behind whole lines
-module _ (p : Pass) (whole : p.fault ≡ None) (empty : p.held ≡ []) where
-  lines_whole : (T : TreeValue) (bytes : List ℕ) → HasPassed T p bytes → (ns : List NodeLine) × IsScanned T p bytes ns ns
+module _ (p : Intake) (whole : p.fault ≡ None) (empty : p.held ≡ []) where
+  lines_whole : (T : TreeValue) (bytes : List ℕ) → HasTakenIn T p bytes → (ns : List NodeLine) × IsScanned T p bytes ns ns
   lines_whole T bytes passed =
-      let so_far = passed_whole T p bytes whole passed in
+      let so_far = taken_in_whole T p bytes whole passed in
       let none : so_far.1 ≡ [] = held_none p.held so_far.1 so_far.4 empty in
       let text : so_far.0 ≡ bytes = sym (so_far.3 ∙ ap (λ (t : List ℕ). so_far.0 ++ t) none ∙ append-nil so_far.0) in
       (so_far.2, subst (λ (t : List ℕ). IsScanned T p t so_far.2 so_far.2) text so_far.6)
 
-  pub finishes : (r : Result Unit DocFault) → FinishesText p.scanner r → EndsPass p p r
+  pub finishes : (r : Result Unit DocFault) → FinishesText p.scanner r → EndsIntake p p r
   finishes (Ok done) ends = λ T bytes passed.
       let lines = lines_whole T bytes passed in
       record { nodes = lines.0; scanned = lines.1; document = ends bytes lines.0 lines.1.fed }
@@ -65,9 +65,9 @@ module _ (p : Pass) (whole : p.fault ≡ None) (empty : p.held ≡ []) where
       cut_fault bytes f short ends.0 (ends.1 bytes lines.0 lines.1.fed)
 
 -- the line that has no LF
-pub unended : (p q : Pass) (P : Progress) (f : DocFault) → p.fault ≡ None → (p.held ≡ [] → ⊥) → ((line : List ℕ) → HasSameFault p.held line) → FeedsLine p.scanner p.held false P (Err f) → EndsPass p q (Err f)
+pub unended : (p q : Intake) (P : Progress) (f : DocFault) → p.fault ≡ None → (p.held ≡ [] → ⊥) → ((line : List ℕ) → HasSameFault p.held line) → FeedsLine p.scanner p.held false P (Err f) → EndsIntake p q (Err f)
 unended p q P f whole some law fed T bytes passed short =
-    let so_far = passed_whole T p bytes whole passed in
+    let so_far = taken_in_whole T p bytes whole passed in
     let text = so_far.0 in
     let line = so_far.1 in
     fault_at bytes text line false f short so_far.3 so_far.5 (held_fault p.held line so_far.4 (law line) text false f (fed.1 text so_far.2 so_far.6.fed))
@@ -81,7 +81,7 @@ found_told T G S f None (Some c) ns some none told taken = absurd told
 found_told T G S f (Some r) None ns some none told taken = absurd told
 
 -- the head that was told
-pub head_is : (T : TreeValue) (p : Pass) (bytes : List ℕ) (H : Head) → IsWhole T p bytes → told_head p.scanner.stage ≡ Some H → HasTold p.scanner → IsHead H
+pub head_is : (T : TreeValue) (p : Intake) (bytes : List ℕ) (H : Head) → IsWhole T p bytes → told_head p.scanner.stage ≡ Some H → HasTold p.scanner → IsHead H
 head_is T p bytes H whole told tells = (subst (TellsHead bytes whole.nodes) told (tells bytes whole.nodes whole.scanned.fed)).1
 
 same_some : (o : Option Head) (H K : Head) → o ≡ Some H → o ≡ Some K → H ≡ K
@@ -97,8 +97,8 @@ on_points D tree G s P Q floor same parts = subst (λ (R : List Point). HasParts
 pub reason_there : (T : TreeValue) (D : Document) (tree : TreeValue) (G : Sheet) (s : ℕ) (P Q : List Point) (floor : Floor) (r : Option Reason) → Q ≡ P → ((E : Document) → HasParts E tree G s Q floor → IsReasonBeforeProof T E r) → HasParts D tree G s P floor → IsReasonBeforeProof T D r
 reason_there T D tree G s P Q floor r same before parts = before D (on_points D tree G s P Q floor same parts)
 
--- the answer, as the code has it: of the pass on its sheet, by this head
-pub answered : (T : TreeValue) (p : Pass) (bytes : List ℕ) (H : Head) (f : Found) (s : Streamed) → IsWhole T p bytes → length bytes ≤ most_document_bytes
+-- the answer, as the code has it: of the intake on its sheet, by this head
+pub answered : (T : TreeValue) (p : Intake) (bytes : List ℕ) (H : Head) (f : Found) (s : Streamed) → IsWhole T p bytes → length bytes ≤ most_document_bytes
     → told_head p.scanner.stage ≡ Some H
     → p.metric.sheet ≡ H.sheet
     → ((r : Refutation) → HasTaken p.metric.tree p.metric.sheet p.stack (node_list r 0) → IsFoundOf p.metric.tree p.metric.sheet (Some r) f)
@@ -124,8 +124,8 @@ answered T p bytes H f s whole short told sheet some none side bound verdict =
       no = no_is T D s.verdict v;
     }
 
--- the pass on its sheet is as whole
-pub whole_on : (T : TreeValue) (p q : Pass) (bytes : List ℕ) → q.scanner ≡ p.scanner → ((ns : List NodeLine) → IsScanned T p bytes ns ns → IsScanned T q bytes ns ns) → IsWhole T p bytes → IsWhole T q bytes
+-- the intake on its sheet is as whole
+pub whole_on : (T : TreeValue) (p q : Intake) (bytes : List ℕ) → q.scanner ≡ p.scanner → ((ns : List NodeLine) → IsScanned T p bytes ns ns → IsScanned T q bytes ns ns) → IsWhole T p bytes → IsWhole T q bytes
 whole_on T p q bytes same scanned whole = record {
   nodes = whole.nodes;
   scanned = scanned whole.nodes whole.scanned;

@@ -11,7 +11,7 @@ use Rattle.bp_document.specs.Places.{IsStart}
 use Rattle.bp_document.proofs.OneForm.{version_differs, sheet_one}
 use Rattle.bp_document.proofs.Runs.{bare, bare_line}
 use Rattle.bp_document.proofs.Spelling.{version_spelled, sheet_spelled}
-use Rattle.bp_check.specs.Pass.{Starts}
+use Rattle.bp_check.specs.Intake.{Starts}
 
 -- two texts that begin with a line are the same, so the lines are, and what follows them
 pub one_line : (a b p q : List ℕ) → All (λ x. x ≢ 10) a → All (λ x. x ≢ 10) b → a ++ 10 ∷ p ≡ b ++ 10 ∷ q → (a ≡ b) × (p ≡ q)

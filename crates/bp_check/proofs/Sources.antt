@@ -9,10 +9,10 @@ use Rattle.bp_base.specs.Tree.{TreeValue}
 use Rattle.bp_document.specs.declared.fault.DocFault.{DocFault}
 use Rattle.bp_check.specs.declared.fault.CheckFault.TheVariants.{Doc}
 use Rattle.bp_check.specs.declared.fault.Streamed.{Streamed}
-use Rattle.bp_check.specs.declared.pass.Pass.{Pass}
-use Rattle.bp_check.specs.Pass.{Takes}
-use Rattle.bp_check.specs.Streams.{Told, HasRead, most_read, ChecksText, IsRefused, AnswersText, Streams, IsReadTo, IsTaken}
-use Rattle.bp_check.proofs.Passing.{takes_then, takes_none_more}
+use Rattle.bp_check.specs.declared.intake.Intake.{Intake}
+use Rattle.bp_check.specs.Intake.{Takes, AnswersText, IsReadTo, HasTakenAll}
+use Rattle.bp_check.specs.Streams.{Told, HasRead, most_read, ChecksText, IsRefused, Streams}
+use Rattle.bp_check.proofs.Intakes.{takes_then, takes_none_more}
 
 read_more : (start now after : Option (List ℕ)) (bytes buffer : List ℕ) (k : ℕ) → HasRead start now bytes → Reads now after k buffer → k ≤ length buffer → HasRead start after (bytes ++ take k buffer)
 read_more None now after bytes buffer k so_far here fits = let h = subst (λ (n : Option (List ℕ)). Reads n after k buffer) so_far here in h
@@ -31,17 +31,17 @@ read_end (Some l) now bytes so_far ends =
     omega (arith, length-drop (length bytes) l, none, ap length so_far.1, length-take (length bytes) l)
 
 -- so many bytes were taken so far
-abbrev pub HasTakenOf : Pass → Pass → Option (List ℕ) → Option (List ℕ) → ℕ → Type 0
+abbrev pub HasTakenOf : Intake → Intake → Option (List ℕ) → Option (List ℕ) → ℕ → Type 0
 HasTakenOf p q left now count = (bytes : List ℕ) × (length bytes ≡ count) × HasRead left now bytes × Takes p q bytes
 
 read_nothing : (start : Option (List ℕ)) → HasRead start start []
 read_nothing None = refl
 read_nothing (Some l) = (refl, refl)
 
-pub nothing_taken : (p : Pass) (left : Option (List ℕ)) → HasTakenOf p p left left 0
+pub nothing_taken : (p : Intake) (left : Option (List ℕ)) → HasTakenOf p p left left 0
 nothing_taken p left = ([], refl, read_nothing left, takes_none_more p)
 
-pub more_taken : (p q r : Pass) (left now after : Option (List ℕ)) (count k : ℕ) (buffer : List ℕ) → HasTakenOf p q left now count → Reads now after k buffer → k ≤ length buffer → Takes q r (take k buffer) → HasTakenOf p r left after (count + k)
+pub more_taken : (p q r : Intake) (left now after : Option (List ℕ)) (count k : ℕ) (buffer : List ℕ) → HasTakenOf p q left now count → Reads now after k buffer → k ≤ length buffer → Takes q r (take k buffer) → HasTakenOf p r left after (count + k)
 more_taken p q r left now after count k buffer so_far reads fits takes = (
   so_far.0 ++ take k buffer,
   length-append so_far.0 (take k buffer) ∙ omega (arith, so_far.1, length-take-le k buffer fits),
@@ -49,7 +49,7 @@ more_taken p q r left now after count k buffer so_far reads fits takes = (
   takes_then p q r so_far.0 (take k buffer) so_far.3 takes,
 )
 
-pub all_taken : (p q : Pass) (left now after : Option (List ℕ)) (count k : ℕ) (buffer : List ℕ) → HasTakenOf p q left now count → count ≤ most_read → Reads now after k buffer → EndsAt now k → k ≡ 0 → IsTaken p q left after count
+pub all_taken : (p q : Intake) (left now after : Option (List ℕ)) (count k : ℕ) (buffer : List ℕ) → HasTakenOf p q left now count → count ≤ most_read → Reads now after k buffer → EndsAt now k → k ≡ 0 → HasTakenAll p q left after count
 all_taken p q left now after count k buffer so_far few reads ends none =
     let same : so_far.0 ++ take k buffer ≡ so_far.0 = ap (λ (n : ℕ). so_far.0 ++ take n buffer) none ∙ append-nil so_far.0 in
     let read : HasRead left after so_far.0 = subst (HasRead left after) same (read_more left now after so_far.0 buffer k so_far.2 reads (omega (arith, none))) in

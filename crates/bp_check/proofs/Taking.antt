@@ -16,7 +16,7 @@ use Rattle.bp_check.specs.declared.stack.Stack.{Stack}
 use Rattle.bp_check.specs.Tests.{may_split}
 use Rattle.bp_check.specs.Found.{joined, found_of}
 use Rattle.bp_document.specs.Told.{node_list}
-use Rattle.bp_check.specs.Stack.{stack_of, empty_stack, opened, is_wrong, closed, entered, with_split, with_claim, with_node, fed, run, IsKept, HasTaken}
+use Rattle.bp_check.specs.Stack.{stack_of, empty_stack, opened, is_wrong, closed, entered, with_split, with_claim, with_node, fed, run, IsStack, HasTaken}
 use Rattle.bp_check.specs.Verdicts.{IsFoundOf}
 use Rattle.bp_check.proofs.Judging.{found_is}
 use Rattle.bp_check.proofs.Kept.{closed_done}
@@ -44,14 +44,14 @@ module _ (T : TreeValue) (G : Sheet) where
   unfolding entered closed
   fed_count S line = node_count (entered T G line.depth (closed T G line.depth S)) line.kind
 
-  pub takes : (S N : Stack) (line : NodeLine) → N ≡ fed T G S line → IsKept T G N → (lines : List NodeLine) → HasTaken T G S lines → HasTaken T G N (lines ++ line ∷ [])
+  pub takes : (S N : Stack) (line : NodeLine) → N ≡ fed T G S line → IsStack T G N → (lines : List NodeLine) → HasTaken T G S lines → HasTaken T G N (lines ++ line ∷ [])
   takes S N line now kept lines taken = record {
     is = now ∙ ap (λ (M : Stack). fed T G M line) taken.is ∙ sym (run_push empty_stack lines line);
     kept = kept;
     count = ap (λ (M : Stack). M.count) now ∙ fed_count S line ∙ omega (arith, taken.count, length-append lines (line ∷ []));
   }
 
-  pub empty_kept : IsKept T G empty_stack
+  pub empty_kept : IsStack T G empty_stack
   empty_kept = record {
     path = refl;
     pairs = λ k d less. absurd (omega (arith, less));
@@ -60,7 +60,7 @@ module _ (T : TreeValue) (G : Sheet) where
   }
 
   pub takes_none : (S : Stack) → S ≡ empty_stack → HasTaken T G S []
-  takes_none S is = record { is = is; kept = subst (IsKept T G) (sym is) empty_kept; count = ap (λ (M : Stack). M.count) is }
+  takes_none S is = record { is = is; kept = subst (IsStack T G) (sym is) empty_kept; count = ap (λ (M : Stack). M.count) is }
 
   pub finds : (S : Stack) (f : Found) → f ≡ (closed T G 0 S).found → (r : Refutation) → HasTaken T G S (node_list r 0) → IsFoundOf T G (Some r) f
   finds S f is r taken =
@@ -74,10 +74,10 @@ module _ (T : TreeValue) (G : Sheet) where
       subst (IsFoundOf T G None) (sym found) (found_is T G None)
 
   -- as the code has it: the call of a line's kind
-  pub feeds : {X E : Type 0} (r : Result X E) (S N : Stack) (line : NodeLine) (kind : NodeKind) → line.kind ≡ kind → OnOk r (N ≡ with_node T G kind (entered T G line.depth (closed T G line.depth S))) → OnOk r (IsKept T G N) → OnOk r ((lines : List NodeLine) → HasTaken T G S lines → HasTaken T G N (lines ++ line ∷ []))
+  pub feeds : {X E : Type 0} (r : Result X E) (S N : Stack) (line : NodeLine) (kind : NodeKind) → line.kind ≡ kind → OnOk r (N ≡ with_node T G kind (entered T G line.depth (closed T G line.depth S))) → OnOk r (IsStack T G N) → OnOk r ((lines : List NodeLine) → HasTaken T G S lines → HasTaken T G N (lines ++ line ∷ []))
   feeds (Ok x) S N line kind is now kept =
       takes S N line (now ∙ ap (λ (k : NodeKind). with_node T G k (entered T G line.depth (closed T G line.depth S))) (sym is)) kept
   feeds (Err e) S N line kind is now kept = tt
 
-  pub feeds_open : {X E : Type 0} (r : Result X E) (S N : Stack) (line : NodeLine) (claim : Claim) → line.kind ≡ Open claim → OnOk r (N ≡ with_node T G (Closed claim) (entered T G line.depth (closed T G line.depth S))) → OnOk r (IsKept T G N) → OnOk r ((lines : List NodeLine) → HasTaken T G S lines → HasTaken T G N (lines ++ line ∷ []))
+  pub feeds_open : {X E : Type 0} (r : Result X E) (S N : Stack) (line : NodeLine) (claim : Claim) → line.kind ≡ Open claim → OnOk r (N ≡ with_node T G (Closed claim) (entered T G line.depth (closed T G line.depth S))) → OnOk r (IsStack T G N) → OnOk r ((lines : List NodeLine) → HasTaken T G S lines → HasTaken T G N (lines ++ line ∷ []))
   feeds_open r S N line claim is now kept = feeds r S N line (Open claim) is now kept

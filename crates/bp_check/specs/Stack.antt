@@ -107,11 +107,11 @@ pub record KeepsWithin (T : TreeValue) (G : Sheet) (most : ℕ) (S : Stack) : Ty
   pub differ : AllPairs (λ a b. a ≢ b) (pairs_of S.splits)
   pub seen : All (λ (o : OpenSplit). o.seen ≤ most) S.splits
 
-abbrev pub IsKept : TreeValue → Sheet → Stack → Type 0
-IsKept T G S = KeepsWithin T G S.count S
+abbrev pub IsStack : TreeValue → Sheet → Stack → Type 0
+IsStack T G S = KeepsWithin T G S.count S
 
 -- the stack has taken these lines, and nothing else
 pub record HasTaken (T : TreeValue) (G : Sheet) (S : Stack) (lines : List NodeLine) : Type 0 where
   pub is : S ≡ run T G empty_stack lines
-  pub kept : IsKept T G S
+  pub kept : IsStack T G S
   pub count : S.count ≡ length lines

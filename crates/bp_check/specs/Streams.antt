@@ -1,5 +1,5 @@
 -- What a check in one pass answers for a source.
-use Rattle.std.specs.Prelude.{◌≡◌, ◌↔◌, ◌⊎◌, ℕ, ◌+◌, ◌≤◌, List, [], length, take, drop, Result, Ok, Err}
+use Rattle.std.specs.Prelude.{◌≡◌, ◌↔◌, ℕ, ◌+◌, List, [], length, take, drop, Result, Ok, Err}
 use Rattle.std.specs.declared.option.Option.{Option}
 use Rattle.std.specs.declared.option.Option.TheVariants.{None, Some}
 use Rattle.bp_base.specs.Limits.{most_document_bytes}
@@ -12,9 +12,7 @@ use Rattle.bp_check.specs.declared.fault.CheckFault.TheVariants.{Doc, Read, NoMe
 use Rattle.bp_check.specs.declared.fault.Streamed.{Streamed}
 use Rattle.bp_check.specs.declared.verdict.Reason.{Reason}
 use Rattle.bp_check.specs.declared.verdict.Verdict.TheVariants.{Yes, No}
-use Rattle.bp_check.specs.declared.pass.Pass.{Pass}
 use Rattle.bp_check.specs.Checks.{Checks}
-use Rattle.bp_check.specs.Pass.{Takes}
 use Rattle.bp_check.specs.Reasons.{IsFirstReason}
 
 -- P holds of the bytes, where they are told
@@ -45,11 +43,6 @@ pub record IsRefused (bytes : List ℕ) (f : DocFault) : Type 0 where
   pub fault : IsDocFault bytes f
   pub none : (D : Document) → IsTextOf bytes D → ⊥
 
--- What is answered to these bytes, where they are all that there is.
-abbrev pub AnswersText : TreeValue → List ℕ → Result Streamed DocFault → Type 0
-AnswersText T bytes (Ok s) = ChecksText T bytes s
-AnswersText T bytes (Err f) = IsRefused bytes f
-
 -- What is answered to a source, by what was left of it and what is: it is read to its end, or to one byte past the limit. Some bytes were checked,
 -- and where the source tells its bytes they are these.
 abbrev pub Streams : TreeValue → Option (List ℕ) → Option (List ℕ) → Result Streamed CheckFault → Type 0
@@ -57,17 +50,3 @@ Streams T left after (Ok s) = (bytes : List ℕ) × ChecksText T bytes s × Told
 Streams T left after (Err (Doc f)) = Told left (λ b. IsRefused (take most_read b) f × (after ≡ Some (drop most_read b)))
 Streams T left after (Err Read) = Unit {0}
 Streams T left after (Err NoMemory) = Unit {0}
-
--- the answer is no fault of a document
-abbrev pub IsNoDoc : CheckFault → Type 0
-IsNoDoc (Doc f) = ⊥
-IsNoDoc Read = Unit {0}
-IsNoDoc NoMemory = Unit {0}
-
--- all bytes were read, or one past the limit
-abbrev pub IsReadTo : Option (List ℕ) → Option (List ℕ) → List ℕ → Type 0
-IsReadTo left after bytes = HasRead left after bytes × ((length bytes ≡ most_read) ⊎ ((length bytes ≤ most_read) × Told left (λ b. length b ≡ length bytes)))
-
--- The pass has taken so many bytes more, which are all, or one more than the limit.
-abbrev pub IsTaken : Pass → Pass → Option (List ℕ) → Option (List ℕ) → ℕ → Type 0
-IsTaken p q left after count = (bytes : List ℕ) × (length bytes ≡ count) × IsReadTo left after bytes × Takes p q bytes

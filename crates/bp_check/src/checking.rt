@@ -15,7 +15,7 @@ ghost use Rattle.bp_check.specs.Written.{IsWanted};
 use crate::found::Found;
 use crate::laws::law_of_checks;
 use crate::verdict::{Reason, Verdict};
-use crate::walk::found_in;
+use crate::visit::found_in;
 use bp_base::{Floor, Name, NoMemory, Point, Refutation, Tree};
 use bp_document::Document;
 use bp_floor::floor_holds;

@@ -1,10 +1,12 @@
 // The line of a document that is being read, as far as it is held.
 ghost use Rattle.std.specs.Prelude.{◌≡◌, ◌++◌, [], List, ℕ, take};
+ghost use Rattle.bp_check.specs.Held.{most_held};
 
+use bp_document::MOST_LINE;
 use std::marker::Model;
 
 // One byte more than the longest line of any form, so that a longer line is seen to be one.
-const MOST_HELD: usize = 513;
+const MOST_HELD: usize = MOST_LINE as usize + 1;
 
 /// The first bytes of a line. Contracts see them as a list.
 #[derive(Drop)]
@@ -15,12 +17,13 @@ pub struct HeldLine {
 
 impl Model for HeldLine {
     ghost use Rattle.std.specs.Prelude.{◌≡◌, ◌≤◌, List, ℕ, take, length};
+    ghost use Rattle.bp_check.specs.Held.{most_held};
 
     ghost Value = { List ℕ };
 
     ghost view = { λ l. take l.len l.bytes };
 
-    ghost invariant = { λ l. (l.len ≤ 513) × (length l.bytes ≡ 513) };
+    ghost invariant = { λ l. (l.len ≤ most_held) × (length l.bytes ≡ most_held) };
 }
 
 impl HeldLine {
@@ -36,7 +39,7 @@ impl HeldLine {
 
     /// The next bytes of the line, which are held where there is room.
     pub fn extend(&mut self, part: &[u8])
-        ensures { (line : List ℕ) → self.old ≡ take 513 line → self.new ≡ take 513 (line ++ part.now) }
+        ensures { (line : List ℕ) → self.old ≡ take most_held line → self.new ≡ take most_held (line ++ part.now) }
     {
         let count = part.len().min(MOST_HELD - self.len);
         let end = self.len + count;

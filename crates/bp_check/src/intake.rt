@@ -6,8 +6,8 @@ ghost use Rattle.bp_document.specs.declared.document.Document.{Document as AnyDo
 ghost use Rattle.bp_document.specs.declared.node_line.NodeLine.{NodeLine as AnyLine};
 ghost use Rattle.bp_document.specs.declared.head.Head.{Head as AnyHead};
 ghost use Rattle.bp_document.specs.Stages.{told_head};
-ghost use Rattle.bp_check.specs.Pass.{EndsPass, HasPassed, HasScanned, IsAhead, IsPassing, IsScanned, IsWhole, Starts, Takes, end_of};
-ghost use Rattle.bp_check.specs.Streams.{AnswersText, ChecksText};
+ghost use Rattle.bp_check.specs.Intake.{EndsIntake, HasTakenIn, HasScanned, IsAhead, IsUnderway, IsScanned, IsWhole, Starts, Takes, end_of, AnswersText};
+ghost use Rattle.bp_check.specs.Streams.{ChecksText};
 ghost use Rattle.bp_check.specs.Verdicts.{HasParts, IsFoundOf, IsVerdictOf};
 
 use crate::checking::{reason_before_proof, verdict_of};
@@ -27,7 +27,7 @@ use std::alloc::Global;
 /// What is kept of a document while its bytes come: what its lines told, the open splits of its proof, the line that has not ended yet,
 /// and the first fault. The metric is on a square until the sheet is told.
 #[derive(Drop)]
-pub struct Pass {
+pub struct Intake {
     pub scanner: Scanner,
     pub metric: Metric,
     pub stack: Stack,
@@ -35,16 +35,16 @@ pub struct Pass {
     pub fault: Option<DocFault>,
 }
 
-impl Pass {
-    /// The pass before the first byte, with the memory for all that it will hold.
-    pub fn open(alloc: Global, tree: &Tree) -> Result<Pass, NoMemory>
-        ensures passing { IfOk result (λ p. IsPassing p) }
-        ensures nothing { IfOk result (λ p. HasPassed tree.now p []) }
+impl Intake {
+    /// The intake before the first byte, with the memory for all that it will hold.
+    pub fn open(alloc: Global, tree: &Tree) -> Result<Intake, NoMemory>
+        ensures underway { IfOk result (λ p. IsUnderway p) }
+        ensures nothing { IfOk result (λ p. HasTakenIn tree.now p []) }
     {
         let metric = Metric::of(alloc, tree)?;
         let scanner = Scanner::open(alloc)?;
         let stack = Stack::empty(alloc)?;
-        Ok(Pass {
+        Ok(Intake {
             scanner,
             metric,
             stack,
@@ -55,8 +55,8 @@ impl Pass {
 
     /// Takes the next bytes. After a fault they are passed over.
     pub fn take(&mut self, bytes: &[u8]) -> Result<(), NoMemory>
-        requires passing { IsPassing self.old }
-        ensures passing { OnOk result (IsPassing self.new) }
+        requires underway { IsUnderway self.old }
+        ensures underway { OnOk result (IsUnderway self.new) }
         ensures taken { OnOk result (Takes self.old self.new bytes.now) }
     {
         let mut at = 0;
@@ -70,7 +70,7 @@ impl Pass {
 
     // Takes a part of a line, and its LF where it is there.
     fn take_part(&mut self, part: &[u8], ended: bool) -> Result<(), NoMemory>
-        requires passing { IsPassing self.old }
+        requires underway { IsUnderway self.old }
         requires free { All (λ b. b ≢ 10) part.now }
         ensures { OnOk result (Takes self.old self.new (part.now ++ end_of ended)) }
     {
@@ -86,7 +86,7 @@ impl Pass {
 
     // The line that is held has its LF. A long line has the fault of its first bytes.
     fn end_line(&mut self) -> Result<(), NoMemory>
-        requires passing { IsPassing self.old }
+        requires underway { IsUnderway self.old }
         requires whole { self.old.fault ≡ None }
         ensures { OnOk result (Takes self.old self.new (10 ∷ [])) }
     {
@@ -130,8 +130,8 @@ impl Pass {
 
     /// What the bytes taken, which are this many, are as a whole.
     pub fn finish(&mut self, count: u64) -> Result<Streamed, DocFault>
-        requires passing { IsPassing self.old }
-        ensures { (T : TreeValue) (bytes : List ℕ) → length bytes ≡ count → HasPassed T self.old bytes → AnswersText T bytes result }
+        requires underway { IsUnderway self.old }
+        ensures { (T : TreeValue) (bytes : List ℕ) → length bytes ≡ count → HasTakenIn T self.old bytes → AnswersText T bytes result }
     {
         law_of_one_answer();
         if count > MOST_DOCUMENT_BYTES {
@@ -151,9 +151,9 @@ impl Pass {
 
     // The end of the input: a fault of the line that has no LF, or of the end behind whole lines.
     fn end(&mut self) -> Result<(), DocFault>
-        requires passing { IsPassing self.old }
+        requires underway { IsUnderway self.old }
         requires whole { self.old.fault ≡ None }
-        ensures { EndsPass self.old self.new result }
+        ensures { EndsIntake self.old self.new result }
     {
         law_of_long_lines();
         let line = self.held.as_slice();

@@ -5,16 +5,18 @@ mod checking;
 mod fault;
 mod found;
 mod held;
+mod intake;
 mod laws;
-mod pass;
 mod stack;
 mod streaming;
 mod verdict;
-mod walk;
+mod visit;
 
 pub use checking::{are_same, check};
 pub use fault::{CheckFault, Streamed};
-pub use laws::{checks_without_reason, has_reason, law_of_checks, one_reason};
+pub use laws::{
+    checks_without_reason, has_reason, law_of_checked_texts, law_of_checks, one_reason,
+};
 pub use streaming::check_source;
 pub use verdict::{Reason, Verdict};
 

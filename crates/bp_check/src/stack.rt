@@ -8,7 +8,7 @@ ghost use Rattle.bp_document.specs.declared.node_line.NodeLine.{NodeLine as AnyL
 ghost use Rattle.bp_metric.specs.Nodes.{counted};
 ghost use Rattle.bp_document.specs.declared.node_line.NodeKind.TheVariants.{Closed as ClosedKind, Split as SplitKind};
 ghost use Rattle.bp_check.specs.Found.{chain_of, counted_on, found_claim};
-ghost use Rattle.bp_check.specs.Stack.{HasTaken, IsKept, KeepsWithin, closed, empty_stack, entered, fed, found_count, is_wrong, joined_claim, opened, stack_of, step_of, with_child, with_claim, with_split};
+ghost use Rattle.bp_check.specs.Stack.{HasTaken, IsStack, KeepsWithin, closed, empty_stack, entered, fed, found_count, is_wrong, joined_claim, opened, stack_of, step_of, with_child, with_claim, with_split};
 ghost use Rattle.bp_document.specs.Told.{node_list};
 ghost use Rattle.bp_check.specs.Verdicts.{IsFoundOf};
 ghost use Rattle.bp_check.specs.Tests.{may_split, stands_on};
@@ -44,7 +44,7 @@ impl Stack {
     pub fn empty(alloc: Global) -> Result<Stack, NoMemory>
         ensures empty { IfOk result (λ s. s ≡ empty_stack) }
         ensures taken { IfOk result (λ s. (T : TreeValue) (G : AnySheet) → HasTaken T G s []) }
-        ensures kept { IfOk result (λ s. (T : TreeValue) (G : AnySheet) → IsKept T G s) }
+        ensures kept { IfOk result (λ s. (T : TreeValue) (G : AnySheet) → IsStack T G s) }
     {
         let splits = Vec::with_capacity(alloc, MOST_STEPS as usize)?;
         Ok(Stack {
@@ -57,9 +57,9 @@ impl Stack {
 
     /// Takes the next node of a proof, by its line. After NoMemory the stack is of no use.
     pub fn feed(&mut self, metric: &Metric, line: &NodeLine) -> Result<(), NoMemory>
-        requires kept { IsKept metric.now.tree metric.now.sheet self.old }
+        requires kept { IsStack metric.now.tree metric.now.sheet self.old }
         requires room { self.old.count + 1 < 2 ^ 64 }
-        ensures kept { OnOk result (IsKept metric.now.tree metric.now.sheet self.new) }
+        ensures kept { OnOk result (IsStack metric.now.tree metric.now.sheet self.new) }
         ensures taken { OnOk result ((lines : List AnyLine) → HasTaken metric.now.tree metric.now.sheet self.old lines → HasTaken metric.now.tree metric.now.sheet self.new (lines ++ line.now ∷ [])) }
     {
         match &line.kind {
@@ -71,10 +71,10 @@ impl Stack {
 
     /// Takes the next node, a split. After NoMemory the stack is of no use.
     pub fn feed_split(&mut self, metric: &Metric, depth: u64, pair: Pair) -> Result<(), NoMemory>
-        requires kept { IsKept metric.now.tree metric.now.sheet self.old }
+        requires kept { IsStack metric.now.tree metric.now.sheet self.old }
         requires room { self.old.count + 1 < 2 ^ 64 }
         ensures fed { OnOk result (self.new ≡ fed metric.now.tree metric.now.sheet self.old (record { depth = depth; kind = SplitKind pair })) }
-        ensures kept { OnOk result (IsKept metric.now.tree metric.now.sheet self.new) }
+        ensures kept { OnOk result (IsStack metric.now.tree metric.now.sheet self.new) }
     {
         self.close(metric, depth);
         self.enter(metric, depth)?;
@@ -83,10 +83,10 @@ impl Stack {
 
     /// Takes the next node, a proof leaf, by its claim. After NoMemory the stack is of no use.
     pub fn feed_claim(&mut self, metric: &Metric, depth: u64, claim: &Claim) -> Result<(), NoMemory>
-        requires kept { IsKept metric.now.tree metric.now.sheet self.old }
+        requires kept { IsStack metric.now.tree metric.now.sheet self.old }
         requires room { self.old.count + 1 < 2 ^ 64 }
         ensures fed { OnOk result (self.new ≡ fed metric.now.tree metric.now.sheet self.old (record { depth = depth; kind = ClosedKind claim.now })) }
-        ensures kept { OnOk result (IsKept metric.now.tree metric.now.sheet self.new) }
+        ensures kept { OnOk result (IsStack metric.now.tree metric.now.sheet self.new) }
     {
         self.close(metric, depth);
         self.enter(metric, depth)?;
@@ -96,7 +96,7 @@ impl Stack {
 
     /// What was found of the nodes, once the lines of a whole proof are fed, or nothing where there is none.
     pub fn finish(&mut self, metric: &Metric) -> Found
-        requires kept { IsKept metric.now.tree metric.now.sheet self.old }
+        requires kept { IsStack metric.now.tree metric.now.sheet self.old }
         ensures closed { result ≡ (closed metric.now.tree metric.now.sheet 0 self.old).found }
         ensures proof { (r : AnyRefutation) → HasTaken metric.now.tree metric.now.sheet self.old (node_list r 0) → IsFoundOf metric.now.tree metric.now.sheet (Some r) result }
         ensures none { HasTaken metric.now.tree metric.now.sheet self.old [] → IsFoundOf metric.now.tree metric.now.sheet None result }
@@ -107,9 +107,9 @@ impl Stack {
 
     // Closes the splits of this depth and deeper ones.
     fn close(&mut self, metric: &Metric, depth: u64)
-        requires kept { IsKept metric.now.tree metric.now.sheet self.old }
+        requires kept { IsStack metric.now.tree metric.now.sheet self.old }
         ensures closed { self.new ≡ closed metric.now.tree metric.now.sheet depth self.old }
-        ensures kept { IsKept metric.now.tree metric.now.sheet self.new }
+        ensures kept { IsStack metric.now.tree metric.now.sheet self.new }
         ensures count { self.new.count ≡ self.old.count }
     {
         while depth < self.splits.len() as u64 {
@@ -118,10 +118,10 @@ impl Stack {
     }
 
     fn close_last(&mut self, metric: &Metric)
-        requires kept { IsKept metric.now.tree metric.now.sheet self.old }
+        requires kept { IsStack metric.now.tree metric.now.sheet self.old }
         requires some { 0 < length self.old.splits }
         ensures closed { self.new ≡ closed metric.now.tree metric.now.sheet (length self.old.splits - 1) self.old }
-        ensures kept { IsKept metric.now.tree metric.now.sheet self.new }
+        ensures kept { IsStack metric.now.tree metric.now.sheet self.new }
         ensures count { self.new.count ≡ self.old.count }
         ensures less { length self.new.splits < length self.old.splits }
     {
@@ -133,7 +133,7 @@ impl Stack {
 
     // The next node is a child of the last split where its depth is that of such a child.
     fn enter(&mut self, metric: &Metric, depth: u64) -> Result<(), NoMemory>
-        requires kept { IsKept metric.now.tree metric.now.sheet self.old }
+        requires kept { IsStack metric.now.tree metric.now.sheet self.old }
         requires room { self.old.count + 1 < 2 ^ 64 }
         ensures entered { OnOk result (self.new ≡ entered metric.now.tree metric.now.sheet depth self.old) }
         ensures kept { OnOk result (KeepsWithin metric.now.tree metric.now.sheet (self.old.count + 1) self.new) }
@@ -147,7 +147,7 @@ impl Stack {
 
     // The last split has one more child.
     fn enter_last(&mut self, metric: &Metric) -> Result<(), NoMemory>
-        requires kept { IsKept metric.now.tree metric.now.sheet self.old }
+        requires kept { IsStack metric.now.tree metric.now.sheet self.old }
         requires room { self.old.count + 1 < 2 ^ 64 }
         ensures entered { OnOk result (self.new ≡ stack_of metric.now.tree metric.now.sheet (with_child self.old.splits) self.old.count self.old.found) }
         ensures kept { OnOk result (KeepsWithin metric.now.tree metric.now.sheet (self.old.count + 1) self.new) }
@@ -171,7 +171,7 @@ impl Stack {
         requires kept { KeepsWithin metric.now.tree metric.now.sheet (self.old.count + 1) self.old }
         requires room { self.old.count + 1 < 2 ^ 64 }
         ensures split { OnOk result (self.new ≡ with_split metric.now.tree metric.now.sheet pair self.old) }
-        ensures kept { OnOk result (IsKept metric.now.tree metric.now.sheet self.new) }
+        ensures kept { OnOk result (IsStack metric.now.tree metric.now.sheet self.new) }
     {
         if self.may_open(metric, pair) {
             return self.open_split(metric, pair);
@@ -192,7 +192,7 @@ impl Stack {
         requires room { self.old.count + 1 < 2 ^ 64 }
         requires good { IsTrue (may_split (leaf_count metric.now.tree) self.old.path pair) }
         ensures split { OnOk result (self.new ≡ stack_of metric.now.tree metric.now.sheet (self.old.splits ++ opened self.old.count pair ∷ []) (self.old.count + 1) self.old.found) }
-        ensures kept { OnOk result (IsKept metric.now.tree metric.now.sheet self.new) }
+        ensures kept { OnOk result (IsStack metric.now.tree metric.now.sheet self.new) }
     {
         let _leaves = metric.leaves();
         let split = OpenSplit {
@@ -211,7 +211,7 @@ impl Stack {
         requires kept { KeepsWithin metric.now.tree metric.now.sheet (self.old.count + 1) self.old }
         requires room { self.old.count + 1 < 2 ^ 64 }
         ensures claim { self.new ≡ with_claim metric.now.tree metric.now.sheet claim.now self.old }
-        ensures kept { IsKept metric.now.tree metric.now.sheet self.new }
+        ensures kept { IsStack metric.now.tree metric.now.sheet self.new }
     {
         self.found = joined_claim(metric, self.found, self.count, &self.path, claim);
         self.count += 1;

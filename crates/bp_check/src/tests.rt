@@ -9,8 +9,8 @@ use crate::found::Found;
 use crate::held::HeldLine;
 use crate::stack::Stack;
 use crate::{
-    CheckFault, Reason, Verdict, check, checks_without_reason, has_reason, law_of_checks,
-    one_reason,
+    CheckFault, Reason, Verdict, check, checks_without_reason, has_reason, law_of_checked_texts,
+    law_of_checks, one_reason,
 };
 use bp_base::{
     Axis, Chain, Claim, Floor, Name, NoMemory, Pair, Point, Refutation, Sequence, Sheet, Tree,
@@ -327,6 +327,7 @@ fn two_corners(rt: HostRuntime) -> Result<(), Fail> {
     let metric = Metric::of(alloc, &own)?;
     law_of_checks(&metric);
     checks_without_reason();
+    law_of_checked_texts();
     one_reason();
     has_reason();
     Ok(())

@@ -3,8 +3,8 @@ ghost use Rattle.std.specs.Prelude.{◌≡◌, ◌<◌, ◌+◌, ◌*◌, ◌++�
 ghost use Rattle.bp_metric.specs.Nodes.{nodes_of};
 ghost use Rattle.bp_check.specs.Found.{found_of};
 ghost use Rattle.bp_document.specs.Told.{node_list};
-ghost use Rattle.bp_check.specs.Stack.{IsKept, run};
-ghost use Rattle.bp_check.specs.Walk.{lines_left, size_left};
+ghost use Rattle.bp_check.specs.Stack.{IsStack, run};
+ghost use Rattle.bp_check.specs.Levels.{lines_to_come, size_to_come};
 
 use crate::found::Found;
 use crate::stack::Stack;
@@ -38,10 +38,10 @@ fn visit_next<'a>(
     levels: &mut Vec<Level<'a>>,
     level: Level<'a>,
 ) -> Result<(), NoMemory>
-    requires kept { IsKept metric.now.tree metric.now.sheet stack.old }
-    ensures lines { OnOk result (run metric.now.tree metric.now.sheet stack.new (lines_left levels.new.items) ≡ run metric.now.tree metric.now.sheet stack.old (lines_left (levels.old.items ++ level.entry ∷ []))) }
-    ensures kept { OnOk result (IsKept metric.now.tree metric.now.sheet stack.new) }
-    ensures less { OnOk result (size_left levels.new.items < size_left (levels.old.items ++ level.entry ∷ [])) }
+    requires kept { IsStack metric.now.tree metric.now.sheet stack.old }
+    ensures lines { OnOk result (run metric.now.tree metric.now.sheet stack.new (lines_to_come levels.new.items) ≡ run metric.now.tree metric.now.sheet stack.old (lines_to_come (levels.old.items ++ level.entry ∷ []))) }
+    ensures kept { OnOk result (IsStack metric.now.tree metric.now.sheet stack.new) }
+    ensures less { OnOk result (size_to_come levels.new.items < size_to_come (levels.old.items ++ level.entry ∷ [])) }
 {
     if let Some((first, rest)) = level.children.split_first() {
         levels.push(Level { children: rest })?;
@@ -57,10 +57,10 @@ fn visit<'a>(
     levels: &mut Vec<Level<'a>>,
     node: &'a Refutation,
 ) -> Result<(), NoMemory>
-    requires kept { IsKept metric.now.tree metric.now.sheet stack.old }
-    ensures lines { OnOk result (run metric.now.tree metric.now.sheet stack.new (lines_left levels.new.items) ≡ run metric.now.tree metric.now.sheet stack.old (node_list node.now (length levels.old.items) ++ lines_left levels.old.items)) }
-    ensures kept { OnOk result (IsKept metric.now.tree metric.now.sheet stack.new) }
-    ensures less { OnOk result (size_left levels.new.items < size_left levels.old.items + 2 * length (node_list node.now (length levels.old.items))) }
+    requires kept { IsStack metric.now.tree metric.now.sheet stack.old }
+    ensures lines { OnOk result (run metric.now.tree metric.now.sheet stack.new (lines_to_come levels.new.items) ≡ run metric.now.tree metric.now.sheet stack.old (node_list node.now (length levels.old.items) ++ lines_to_come levels.old.items)) }
+    ensures kept { OnOk result (IsStack metric.now.tree metric.now.sheet stack.new) }
+    ensures less { OnOk result (size_to_come levels.new.items < size_to_come levels.old.items + 2 * length (node_list node.now (length levels.old.items))) }
 {
     // no memory holds so many nodes
     if stack.count == u64::MAX {

@@ -5,7 +5,7 @@ use Rattle.std.proofs.lemmas.List.Elements.{All-append, All-cons, All-nil}
 use Rattle.bp_base.specs.Limits.{most_number, most_leaves}
 use Rattle.bp_base.specs.Chain.{IsChainList, ChainsExactly}
 use Rattle.bp_text.specs.Numbers.{IsDecimal}
-use Rattle.bp_document.specs.Nodes.{ReadsChain}
+use Rattle.bp_document.specs.NodeWords.{ReadsChain}
 
 -- the words begin with these numbers
 pub record BeginsWith (ws : List (List ℕ)) (done : List ℕ) (rest : List (List ℕ)) : Type 0 where

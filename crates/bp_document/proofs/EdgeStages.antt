@@ -17,7 +17,7 @@ use Rattle.bp_document.specs.Lines.{line}
 use Rattle.bp_document.specs.Text.{edge_lines}
 use Rattle.bp_document.specs.Forms.{edge_text}
 use Rattle.bp_document.specs.Places.{edges_part}
-use Rattle.bp_document.specs.Faults.{FeedsEdge, FeedsLastEdge}
+use Rattle.bp_document.specs.Feeding.{FeedsEdge, FeedsLastEdge}
 use Rattle.bp_document.specs.Stages.{FeedsStage}
 use Rattle.bp_document.proofs.BodySteps.{extended}
 

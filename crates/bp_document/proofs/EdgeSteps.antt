@@ -6,7 +6,7 @@ use Rattle.bp_base.specs.Tree.{TreeValue, leaf_count}
 use Rattle.bp_tree.specs.declared.edge.Edge.{Edge}
 use Rattle.bp_tree.specs.declared.fault.TreeKind.{TreeKind}
 use Rattle.bp_tree.specs.declared.fault.TreeKind.TheVariants.{TooLong as TreeTooLong, BadJson, BadShape, BadByte, WordCount, BadName, BadLength, UnknownParent, RepeatedName, TooManyNodes, Empty, RootIsLeaf, TooManyLeaves}
-use Rattle.bp_tree.specs.Edges.{HasEdges, IsGrowing, root_children}
+use Rattle.bp_tree.specs.Edges.{HasEdges, IsGrowing, root_children, names_of}
 use Rattle.bp_tree.specs.Faults.{LacksUpper, RepeatsLower}
 use Rattle.bp_tree.specs.Growing.{AddsEdge, Finishes}
 use Rattle.bp_tree.proofs.Growth.{edge_count}
@@ -14,7 +14,8 @@ use Rattle.bp_document.specs.declared.fault.DocKind.{DocKind}
 use Rattle.bp_document.specs.declared.fault.DocKind.TheVariants.{TooLong, Trailing, Cut, BadForm, BadTree, BadPoint, BadDepth}
 use Rattle.bp_document.specs.Forms.{IsEdgeForm, IsEdgeCount}
 use Rattle.bp_document.specs.Places.{Place, AtEdge}
-use Rattle.bp_document.specs.Faults.{HasForm, HasKind, IsFirstKind, IsBadEdge, names_of, order, FeedsEdge}
+use Rattle.bp_document.specs.Feeding.{FeedsEdge}
+use Rattle.bp_document.specs.Faults.{HasForm, HasKind, IsFirstKind, IsBadEdge, order}
 
 module _ (place : Place) (bytes : List ℕ) (inside : HasKind place bytes true Trailing → ⊥) where
   pub bad_form : (HasForm place bytes → ⊥) → IsFirstKind place bytes true BadForm

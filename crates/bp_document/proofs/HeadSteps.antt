@@ -22,7 +22,8 @@ use Rattle.bp_document.specs.Words.{words}
 use Rattle.bp_document.specs.Forms.{IsFloorForm, IsProofForm, proof_line}
 use Rattle.bp_document.specs.FormWords.{ReadsFloorForm, ReadsProofForm}
 use Rattle.bp_document.specs.Places.{Place, AtPoint, AtFloor, AtProof, next_leaf, side_part, points_part, floor_part, count_of}
-use Rattle.bp_document.specs.Faults.{HasForm, IsFirstKind, FeedsPoint}
+use Rattle.bp_document.specs.Feeding.{FeedsPoint}
+use Rattle.bp_document.specs.Faults.{HasForm, IsFirstKind}
 use Rattle.bp_tree.specs.declared.edge.Edge.{Edge}
 use Rattle.bp_document.specs.Stages.{Stands, FeedsStage, head_of}
 use Rattle.bp_document.proofs.Forms.{floor_exact, proof_exact}

@@ -25,6 +25,7 @@ pub mod OneAnswer
 pub mod LongLines
 pub mod ReadBytes
 pub mod Nodes
+pub mod Sizes
 pub mod Leaves
 pub mod BodyParts
 mod Counts

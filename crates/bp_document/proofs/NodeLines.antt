@@ -21,7 +21,8 @@ use Rattle.bp_document.specs.declared.node_line.NodeLine.{NodeLine}
 use Rattle.bp_document.specs.Lines.{word, line, axis_word, chain_words}
 use Rattle.bp_document.specs.Ranges.{IsChainOf}
 use Rattle.bp_document.specs.Words.{words}
-use Rattle.bp_document.specs.Nodes.{kind_line, IsKindOfNumbers, IsNodeLine, ReadsNode, ReadsOpen, ReadsChainOn, open_words, closed_words, kind_words}
+use Rattle.bp_document.specs.NodeWords.{ReadsNode, open_words, closed_words, kind_words, ReadsChainOn, ReadsOpen}
+use Rattle.bp_document.specs.Nodes.{kind_line, IsKindOfNumbers, IsNodeLine}
 use Rattle.bp_document.proofs.Cuts.{words_then, words_last}
 
 -- a word has no space

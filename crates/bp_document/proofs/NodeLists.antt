@@ -89,17 +89,23 @@ has_lines = by_nodes HasLines split_lines
     (λ claim depth. (lines-closed claim depth ∙ sym (append-nil (node_text (node_at depth (NodeKind.Closed claim)))) ∙ ap (flat_map node_text) (sym (list-closed claim depth)), omega (arith, ap length (parts-closed claim), ap length (list-closed claim depth))))
     (λ claim depth. (lines-open claim depth ∙ sym (append-nil (node_text (node_at depth (NodeKind.Open claim)))) ∙ ap (flat_map node_text) (sym (list-open claim depth)), omega (arith, ap length (parts-open claim), ap length (list-open claim depth))))
 
+-- What holds of all of a list, told by recursion, holds of its two parts.
+module _ {A : Type 0} (P : A → Type 0) where
+  pub all_left : (xs ys : List A) → AllByRecursion P (xs ++ ys) → AllByRecursion P xs
+  all_left [] ys all = tt
+  all_left (x ∷ xs) ys all = (all.0, all_left xs ys all.1)
+
+  pub all_right : (xs ys : List A) → AllByRecursion P (xs ++ ys) → AllByRecursion P ys
+  all_right [] ys all = all
+  all_right (x ∷ xs) ys all = all_right xs ys all.1
+
+  pub all_given : (xs : List A) → All P xs → AllByRecursion P xs
+  all_given [] all = tt
+  all_given (x ∷ xs) all = (all 0 x (omega arith), all_given xs (λ k d less. all (suc k) d (omega (arith, less))))
+
 -- a node within the ranges
 abbrev pub IsFine : NodeLine → Type 0
 IsFine l = IsKindOfNumbers l.kind × (l.depth ≤ most_steps)
-
-all_left : (xs ys : List NodeLine) → AllByRecursion IsFine (xs ++ ys) → AllByRecursion IsFine xs
-all_left [] ys all = tt
-all_left (x ∷ xs) ys all = (all.0, all_left xs ys all.1)
-
-all_right : (xs ys : List NodeLine) → AllByRecursion IsFine (xs ++ ys) → AllByRecursion IsFine ys
-all_right [] ys all = all
-all_right (x ∷ xs) ys all = all_right xs ys all.1
 
 -- Fine nodes are those of a refutation within the ranges.
 abbrev KeepsRanges : Refutation → Type 0
@@ -108,8 +114,8 @@ KeepsRanges r = (depth : ℕ) → AllByRecursion IsFine (node_list r depth) → 
 forest_ranges : (rs : List Refutation) (depth : ℕ) → depth ≤ most_steps → AllByRecursion KeepsRanges rs → AllByRecursion IsFine (forest (depth + 1) rs) → (one_deeper (map depth_of rs) + depth ≤ most_steps) × All IsSmallPart (flat_map parts_of rs)
 forest_ranges [] depth low all fine = (omega (arith, low), All-nil IsSmallPart)
 forest_ranges (r ∷ rs) depth low all fine =
-    let one = all.0 (depth + 1) (all_left (node_list r (depth + 1)) (forest (depth + 1) rs) fine) in
-    let rest = forest_ranges rs depth low all.1 (all_right (node_list r (depth + 1)) (forest (depth + 1) rs) fine) in
+    let one = all.0 (depth + 1) (all_left IsFine (node_list r (depth + 1)) (forest (depth + 1) rs) fine) in
+    let rest = forest_ranges rs depth low all.1 (all_right IsFine (node_list r (depth + 1)) (forest (depth + 1) rs) fine) in
     (omega (arith, one.0, rest.0), All-append IsSmallPart (parts_of r) (flat_map parts_of rs) one.1 rest.1)
 
 split_ranges : (p : Pair) (rs : List Refutation) → AllByRecursion KeepsRanges rs → KeepsRanges (Split p rs)

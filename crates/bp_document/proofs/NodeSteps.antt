@@ -14,7 +14,8 @@ use Rattle.bp_document.specs.Lines.{line}
 use Rattle.bp_document.specs.Forms.{IsLine, proof_line, end_line}
 use Rattle.bp_document.specs.Nodes.{IsKindOfNumbers, node_text}
 use Rattle.bp_document.specs.Places.{Place, AtNode, AtEnd, DepthFits, Follow, deepest, deepest_behind, floor_part, nodes_part}
-use Rattle.bp_document.specs.Faults.{HasForm, IsFirstKind, FeedsNode}
+use Rattle.bp_document.specs.Feeding.{FeedsNode}
+use Rattle.bp_document.specs.Faults.{HasForm, IsFirstKind}
 use Rattle.bp_document.specs.Stages.{Steps, GivesNode}
 use Rattle.bp_document.proofs.EdgeSteps.{bad_form}
 use Rattle.bp_document.proofs.BodySteps.{extended}

@@ -20,7 +20,8 @@ use Rattle.bp_document.specs.Lines.{axis_word, chain_words}
 use Rattle.bp_document.specs.Ranges.{IsChainOf}
 use Rattle.bp_document.specs.Forms.{IsLine, IsSheetLine, IsField, IsEdgeForm, IsPointForm, IsFloorForm, IsProofForm, version_line}
 use Rattle.bp_document.specs.FormWords.{sheet_words, proof_words}
-use Rattle.bp_document.specs.Nodes.{IsKindOfNumbers, IsNodeLine, kind_words, closed_words, open_words}
+use Rattle.bp_document.specs.NodeWords.{open_words, closed_words, kind_words}
+use Rattle.bp_document.specs.Nodes.{IsKindOfNumbers, IsNodeLine}
 use Rattle.bp_document.proofs.Spelling.{IsTidy, version_spelled, sheet_spelled, field_spelled, edge_spelled, point_spelled, floor_spelled, proof_spelled, node_spelled}
 
 abbrev at : ℕ → List (List ℕ) → List ℕ

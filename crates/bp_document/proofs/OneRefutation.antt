@@ -16,19 +16,7 @@ use Rattle.bp_document.specs.Places.{DepthFits, Follow}
 use Rattle.bp_document.specs.Told.{node_at, node_list}
 use Rattle.bp_document.specs.Built.{forest}
 use Rattle.bp_document.proofs.Nodes.{depth-split}
-use Rattle.bp_document.proofs.NodeLists.{by_nodes, list-split, list-closed, list-open}
-
-parts_left : (xs ys : List Part) → AllByRecursion IsSmallPart (xs ++ ys) → AllByRecursion IsSmallPart xs
-parts_left [] ys all = tt
-parts_left (x ∷ xs) ys all = (all.0, parts_left xs ys all.1)
-
-parts_right : (xs ys : List Part) → AllByRecursion IsSmallPart (xs ++ ys) → AllByRecursion IsSmallPart ys
-parts_right [] ys all = all
-parts_right (x ∷ xs) ys all = parts_right xs ys all.1
-
-all_parts : (xs : List Part) → All IsSmallPart xs → AllByRecursion IsSmallPart xs
-all_parts [] all = tt
-all_parts (x ∷ xs) all = (all 0 x (omega arith), all_parts xs (λ k d less. all (suc k) d (omega (arith, less))))
+use Rattle.bp_document.proofs.NodeLists.{by_nodes, all_left, all_right, all_given, list-split, list-closed, list-open}
 
 -- The nodes of a refutation fit where its root does, and leave what follows at its depth or less where it may stand.
 abbrev NodesFollow : Refutation → Type 0
@@ -37,8 +25,8 @@ NodesFollow r = (depth : ℕ) (most : Option ℕ) (rest : List NodeLine) → Dep
 forest_follow : (rs : List Refutation) (depth m : ℕ) (rest : List NodeLine) → AllByRecursion NodesFollow rs → depth + 1 ≤ m → one_deeper (map depth_of rs) + depth ≤ most_steps → AllByRecursion IsSmallPart (flat_map parts_of rs) → ((k : ℕ) → depth ≤ k → Follow (Some k) rest) → Follow (Some m) (forest (depth + 1) rs ++ rest)
 forest_follow [] depth m rest all deep low small then = then m (omega (arith, deep))
 forest_follow (r ∷ rs) depth m rest all deep low small then =
-    let here = all.0 (depth + 1) (Some m) (forest (depth + 1) rs ++ rest) (omega arith, deep, omega (arith, low)) (omega (arith, low)) (parts_left (parts_of r) (flat_map parts_of rs) small)
-    (λ k less. forest_follow rs depth k rest all.1 less (omega (arith, low)) (parts_right (parts_of r) (flat_map parts_of rs) small) then) in
+    let here = all.0 (depth + 1) (Some m) (forest (depth + 1) rs ++ rest) (omega arith, deep, omega (arith, low)) (omega (arith, low)) (all_left IsSmallPart (parts_of r) (flat_map parts_of rs) small)
+    (λ k less. forest_follow rs depth k rest all.1 less (omega (arith, low)) (all_right IsSmallPart (parts_of r) (flat_map parts_of rs) small) then) in
     subst (Follow (Some m)) (sym (append_assoc (node_list r (depth + 1)) (forest (depth + 1) rs) rest)) here
 
 split_follow : (p : Pair) (rs : List Refutation) → AllByRecursion NodesFollow rs → NodesFollow (Split p rs)
@@ -58,7 +46,7 @@ nodes_follow = by_nodes NodesFollow split_follow
 
 pub root_follows : (r : Refutation) → depth_of r ≤ most_steps → All IsSmallPart (parts_of r) → Follow None (node_list r 0)
 root_follows r low small =
-    subst (Follow None) (append-nil (node_list r 0)) (nodes_follow r 0 None [] refl (omega (arith, low)) (all_parts (parts_of r) small) (λ m less. tt))
+    subst (Follow None) (append-nil (node_list r 0)) (nodes_follow r 0 None [] refl (omega (arith, low)) (all_given IsSmallPart (parts_of r) small) (λ m less. tt))
 
 -- A refutation's nodes begin with one at its depth.
 pub root_of : (r : Refutation) → (depth : ℕ) → (kind : NodeKind) × (more : List NodeLine) × (node_list r depth ≡ node_at depth kind ∷ more)

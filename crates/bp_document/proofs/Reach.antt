@@ -26,7 +26,8 @@ use Rattle.bp_document.specs.Text.{edge_lines, point_lines}
 use Rattle.bp_document.specs.Ranges.{IsSmallPoint}
 use Rattle.bp_document.specs.Forms.{IsLine, IsEdgeCount, IsEdgeForm, IsPointForm, edge_text, version_line, end_line}
 use Rattle.bp_document.specs.FormWords.{sheet_words}
-use Rattle.bp_document.specs.Nodes.{IsKindOfNumbers, IsNodeLine, kind_words, node_text}
+use Rattle.bp_document.specs.NodeWords.{kind_words}
+use Rattle.bp_document.specs.Nodes.{IsKindOfNumbers, IsNodeLine, node_text}
 use Rattle.bp_document.specs.Places.{IsStart, DepthFits, Follow, deepest, deepest_behind, next_leaf, count_of}
 use Rattle.bp_document.proofs.NodeLines.{kind_line_is}
 use Rattle.bp_document.proofs.EdgeStages.{edges_whole}

@@ -26,7 +26,8 @@ use Rattle.bp_document.specs.Ranges.{IsChainOf}
 use Rattle.bp_document.specs.Words.{words}
 use Rattle.bp_document.specs.Forms.{IsLine, IsSheetLine, IsField, IsEdgeForm, IsPointForm, IsFloorForm, IsProofForm, version_line, end_line}
 use Rattle.bp_document.specs.FormWords.{sheet_words, proof_words}
-use Rattle.bp_document.specs.Nodes.{IsKindOfNumbers, IsNodeLine, kind_words, closed_words, open_words}
+use Rattle.bp_document.specs.NodeWords.{open_words, closed_words, kind_words}
+use Rattle.bp_document.specs.Nodes.{IsKindOfNumbers, IsNodeLine}
 use Rattle.bp_document.specs.Places.{Place, AtVersion, AtSheet, AtEdges, AtEdge, AtSide, AtBound, AtPoint, AtFloor, AtProof, AtNode, AtEnd, Behind}
 use Rattle.bp_document.specs.Faults.{HasForm}
 use Rattle.bp_document.proofs.NodeLines.{IsWord, spelled_word, number_word, words_of_line, kind_line_is}

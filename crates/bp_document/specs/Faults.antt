@@ -1,13 +1,13 @@
 -- The first fault of bytes that are no document's text.
-use Rattle.std.specs.Prelude.{◌≡◌, ◌≢◌, ◌⊎◌, ℕ, ◌+◌, ◌<◌, ◌≤◌, ◌==◌, List, [], ◌∷◌, ◌++◌, length, take, codes, count_by, All, Bool, true, false, Option, Result, Ok, Err}
+use Rattle.std.specs.Prelude.{◌≡◌, ◌≢◌, ◌⊎◌, ℕ, ◌+◌, ◌<◌, ◌≤◌, ◌==◌, List, [], ◌∷◌, ◌++◌, length, codes, count_by, All, Bool, true, false, Option, Result, Ok, Err}
 use Rattle.bp_base.specs.declared.point.Sheet.TheVariants.{Square}
 use Rattle.bp_base.specs.declared.point.Sheet.{Sheet}
 use Rattle.bp_base.specs.declared.point.Point.{Point}
 use Rattle.bp_base.specs.declared.point.Floor.{Floor}
 use Rattle.bp_base.specs.Limits.{most_document_bytes, most_leaves}
-use Rattle.bp_base.specs.Tree.{TreeValue, IsTree, leaf_count}
+use Rattle.bp_base.specs.Tree.{TreeValue, leaf_count}
 use Rattle.bp_tree.specs.declared.edge.Edge.{Edge}
-use Rattle.bp_tree.specs.Edges.{HasEdges, IsLength, uppers, lowers, root_children}
+use Rattle.bp_tree.specs.Edges.{HasEdges, IsLength, names_of, root_children}
 use Rattle.bp_tree.specs.Faults.{LacksUpper, RepeatsLower}
 use Rattle.bp_document.specs.declared.document.Document.{Document}
 use Rattle.bp_document.specs.declared.fault.DocKind.{DocKind}
@@ -36,10 +36,6 @@ HasForm AtProof bytes = (count : Option ℕ) × IsProofForm bytes count
 HasForm (AtNode most) bytes = (l : NodeLine) × IsNodeLine bytes l
 HasForm AtEnd bytes = IsLine bytes end_line
 HasForm Behind bytes = ⊥
-
--- the names that these edges make
-abbrev pub names_of : List Edge → List (List ℕ)
-names_of es = take 1 (uppers es) ++ lowers es
 
 -- as the last edge it makes no tree
 abbrev pub MakesNoTree : List Edge → Type 0
@@ -87,29 +83,6 @@ pub record IsFirstKind (place : Place) (bytes : List ℕ) (ended : Bool) (kind :
 abbrev pub HasLine : List ℕ → List ℕ → List ℕ → Bool → Type 0
 HasLine bytes text line true = (more : List ℕ) × (bytes ≡ text ++ line ++ 10 ∷ more)
 HasLine bytes text line false = bytes ≡ text ++ line
-
--- What adding the edge of a line to those so far answers: they have it too, or the first fault that the line has.
-abbrev pub FeedsEdge : TreeValue → List ℕ → TreeValue → Result Unit DocKind → Type 0
-FeedsEdge T bytes T' (Ok done) =
-    (e : Edge) × IsEdgeForm bytes e × IsLength e.length × ((es : List Edge) → HasEdges T es → HasEdges T' (es ++ e ∷ []))
-FeedsEdge T bytes T' (Err kind) =
-    (E : ℕ) (es : List Edge) → HasEdges T es → IsEdgeCount E → length es < E → IsFirstKind (AtEdge E es) bytes true kind
-
--- What adding the last edge answers: the tree of all, or the first fault that the line has.
-abbrev pub FeedsLastEdge : TreeValue → List ℕ → Result TreeValue DocKind → Type 0
-FeedsLastEdge T bytes (Ok U) =
-    (e : Edge) × IsEdgeForm bytes e × IsLength e.length × IsTree U × ((es : List Edge) → HasEdges T es → HasEdges U (es ++ e ∷ []))
-FeedsLastEdge T bytes (Err kind) =
-    (E : ℕ) (es : List Edge) → HasEdges T es → IsEdgeCount E → length es + 1 ≡ E → IsFirstKind (AtEdge E es) bytes true kind
-
--- What reading the line of a leaf's point and that of a node answers: it, or the first fault that the line has.
-abbrev pub FeedsPoint : List ℕ → List ℕ → Result Point DocKind → Type 0
-FeedsPoint name bytes (Ok p) = IsPointForm bytes name p
-FeedsPoint name bytes (Err kind) = IsFirstKind (AtPoint name) bytes true kind
-
-abbrev pub FeedsNode : Option ℕ → List ℕ → Result NodeLine DocKind → Type 0
-FeedsNode most bytes (Ok l) = IsNodeLine bytes l × DepthFits most l.depth
-FeedsNode most bytes (Err kind) = IsFirstKind (AtNode most) bytes true kind
 
 -- The line of the bytes behind a text without fault has this fault. The end of input is one only where a line is wanted.
 pub record IsFaultAt (bytes : List ℕ) (f : DocFault) : Type 0 where

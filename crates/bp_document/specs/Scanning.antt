@@ -8,6 +8,7 @@ use Rattle.bp_document.specs.declared.fault.DocKind.TheVariants.{Cut}
 use Rattle.bp_document.specs.declared.fault.DocFault.{DocFault}
 use Rattle.bp_document.specs.declared.head.Head.{Head}
 use Rattle.bp_document.specs.declared.node_line.NodeLine.{NodeLine}
+use Rattle.bp_document.specs.declared.scanner.TheConstants.{MOST_LINE}
 use Rattle.bp_document.specs.declared.stage.Stage.{Stage}
 use Rattle.bp_document.specs.Forms.{end_line}
 use Rattle.bp_document.specs.Places.{Place, AtNode, AtEnd, Behind, Follow, IsHead, LeadsTo, StartsThen, nodes_part, count_of}
@@ -98,9 +99,13 @@ abbrev pub GivesHead : Progress → Result Head DocFault → Type 0
 GivesHead P (Ok H) = (text : List ℕ) (ns : List NodeLine) → HasFed P text ns → IsWholeText text ns H
 GivesHead P (Err f) = FinishesText P (Err f)
 
+-- the most bytes of a line, which is written once, as a constant of the code
+abbrev pub most_line : ℕ
+most_line = MOST_LINE
+
 -- longer than the line of any form
 abbrev pub IsLongLine : List ℕ → Type 0
-IsLongLine line = 512 < length line
+IsLongLine line = most_line < length line
 
 abbrev pub IsTooLongForAll : List ℕ → Type 0
 IsTooLongForAll line = IsLongLine line → (place : Place) → HasForm place line → ⊥

@@ -1,7 +1,7 @@
 // Edge lines, each added to the tree so far.
 ghost use Rattle.std.specs.Prelude.{OnOk};
 ghost use Rattle.bp_tree.specs.Edges.{IsGrowing};
-ghost use Rattle.bp_document.specs.Faults.{FeedsEdge, FeedsLastEdge};
+ghost use Rattle.bp_document.specs.Feeding.{FeedsEdge, FeedsLastEdge};
 ghost use Rattle.bp_document.specs.Stages.{FeedsStage, IsOneMore};
 ghost use Rattle.bp_document.specs.declared.stage.Stage.{Stage};
 

@@ -1,5 +1,5 @@
 ghost use Rattle.std.specs.Prelude.{◌∷◌};
-ghost use Rattle.bp_document.specs.Nodes.{ReadsAxis, ReadsChain, ReadsChainOn, ReadsClosed, ReadsKind, ReadsNode, ReadsOpen, ReadsPair};
+ghost use Rattle.bp_document.specs.NodeWords.{ReadsNode, ReadsChain, ReadsPair, ReadsAxis, ReadsChainOn, ReadsOpen, ReadsClosed, ReadsKind};
 ghost use Rattle.bp_document.specs.Words.{words_behind};
 
 use crate::cut::{next_word, split_word};

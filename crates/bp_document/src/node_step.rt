@@ -1,7 +1,7 @@
 // Node lines, each at a depth that fits behind the line before it.
 ghost use Rattle.std.specs.Prelude.{◌≡◌, ◌≤◌, ◌↔◌, ℕ, true, IsTrue, Option};
 ghost use Rattle.bp_base.specs.Limits.{most_number};
-ghost use Rattle.bp_document.specs.Faults.{FeedsNode};
+ghost use Rattle.bp_document.specs.Feeding.{FeedsNode};
 ghost use Rattle.bp_document.specs.Places.{DepthFits, deepest};
 ghost use Rattle.bp_document.specs.Stages.{Steps};
 ghost use Rattle.bp_document.specs.declared.stage.Stage.{Stage};

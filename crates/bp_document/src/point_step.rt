@@ -2,7 +2,7 @@
 ghost use Rattle.std.specs.Prelude.{◌≡◌, ◌≤◌, ◌<◌, length, MatchOption, slice_index};
 ghost use Rattle.bp_base.specs.Limits.{most_leaves};
 ghost use Rattle.bp_base.specs.Tree.{leaf_count, leaf_nodes, name_of, node_count};
-ghost use Rattle.bp_document.specs.Faults.{FeedsPoint};
+ghost use Rattle.bp_document.specs.Feeding.{FeedsPoint};
 ghost use Rattle.bp_document.specs.Stages.{FeedsStage, IsOneMore};
 ghost use Rattle.bp_document.specs.declared.stage.Stage.{Stage};
 

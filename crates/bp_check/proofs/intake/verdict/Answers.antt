@@ -1,7 +1,7 @@
 use Rattle.std.proofs.Common.{None, Some, ◌∙◌, refl}
 use Rattle.bp_check.proofs.Ending.{reason_there, with_floor}
 use Rattle.bp_check.proofs.Reasoning.{found_verdict}
-use Rattle.bp_check.proofs.pass.verdict.Goals as goal
+use Rattle.bp_check.proofs.intake.verdict.Goals as goal
 
 pub returns-in-Some : goal.returns-in-Some
 returns-in-Some c = λ D parts bound found.

@@ -3,18 +3,18 @@ use Rattle.bp_check.proofs.Sources.{nothing_taken, more_taken, all_taken}
 use Rattle.bp_check.proofs.streaming.take_all.Goals as goal
 
 pub loop-init : goal.loop-init
-loop-init g c = (nothing_taken c.args.pass.now (g.D.Source.left c.args.source.now), c.requires.passing, omega arith, omega arith, omega arith)
+loop-init g c = (nothing_taken c.args.intake.now (g.D.Source.left c.args.source.now), c.requires.underway, omega arith, omega arith, omega arith)
 
 pub returns-then-k-eq0-clause-taken : goal.returns-then-k-eq0-clause-taken
 returns-then-k-eq0-clause-taken g c =
-    all_taken c.args.pass.now c.loop.pass (g.D.Source.left c.args.source.now) (g.D.Source.left c.loop.source) (g.D.Source.left c.read.new.self) c.loop.count c.in-Ok.k c.read.new.buffer c.loop.invariant.0 c.loop.invariant.2 c.in-Ok.ensures.bytes c.in-Ok.ensures.end c.if-k-eq0.true
+    all_taken c.args.intake.now c.loop.intake (g.D.Source.left c.args.source.now) (g.D.Source.left c.loop.source) (g.D.Source.left c.read.new.self) c.loop.count c.in-Ok.k c.read.new.buffer c.loop.invariant.0 c.loop.invariant.2 c.in-Ok.ensures.bytes c.in-Ok.ensures.end c.if-k-eq0.true
 
 pub loop-preserved : goal.loop-preserved
 loop-preserved g c =
     let short : c.in-Ok.k ≤ c.min-room.result = omega (arith, c.in-Ok.ensures.within, length-take c.min-room.result c.loop.buffer) in
     let fits : c.in-Ok.k ≤ length c.read.new.buffer = omega (arith, c.in-Ok.ensures.within, c.read.auto.buffer) in (
-      more_taken c.args.pass.now c.loop.pass c.take.new.self (g.D.Source.left c.args.source.now) (g.D.Source.left c.loop.source) (g.D.Source.left c.read.new.self) c.loop.count c.in-Ok.k c.read.new.buffer c.loop.invariant.0 c.in-Ok.ensures.bytes fits c.in_ok-take.ensures.taken,
-      c.in_ok-take.ensures.passing,
+      more_taken c.args.intake.now c.loop.intake c.take.new.self (g.D.Source.left c.args.source.now) (g.D.Source.left c.loop.source) (g.D.Source.left c.read.new.self) c.loop.count c.in-Ok.k c.read.new.buffer c.loop.invariant.0 c.in-Ok.ensures.bytes fits c.in_ok-take.ensures.taken,
+      c.in_ok-take.ensures.underway,
       omega (arith, short, c.min-room.ensures, c.loop.invariant.2),
       omega (arith, c.if-k-eq0.false, c.loop.invariant.3),
       omega (arith, c.in-Ok.ensures.cause.later, c.loop.invariant.4),

@@ -1,6 +1,6 @@
 use Rattle.std.proofs.Common.{arith}
-use Rattle.bp_check.proofs.Walking.{split_lines, split_less, closed_lines, closed_less, open_lines, open_less, at_ok, always_ok}
-use Rattle.bp_check.proofs.walk.visit.Goals as goal
+use Rattle.bp_check.proofs.Visiting.{split_lines, split_less, closed_lines, closed_less, open_lines, open_less, at_ok, always_ok}
+use Rattle.bp_check.proofs.visit.visit.Goals as goal
 
 pub returns-in_ok-push-in-Split-clause-lines : goal.returns-in_ok-push-in-Split-clause-lines
 returns-in_ok-push-in-Split-clause-lines c =

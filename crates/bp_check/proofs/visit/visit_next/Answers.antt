@@ -1,8 +1,8 @@
 use Rattle.std.proofs.Common.{◌∙◌, refl, sym, ap}
 use Rattle.std.proofs.lemmas.List.{nil_from_length}
 use Rattle.bp_check.specs.Stack.{run}
-use Rattle.bp_check.proofs.Walking.{first_child, first_child_less, no_child, no_child_less}
-use Rattle.bp_check.proofs.walk.visit_next.Goals as goal
+use Rattle.bp_check.proofs.Visiting.{first_child, first_child_less, no_child, no_child_less}
+use Rattle.bp_check.proofs.visit.visit_next.Goals as goal
 
 pub returns-in_ok-visit-clause-lines : goal.returns-in_ok-visit-clause-lines
 returns-in_ok-visit-clause-lines c =

@@ -1,7 +1,7 @@
 use Rattle.std.proofs.Common.{refl}
-use Rattle.bp_check.proofs.Passing.{scanned_kept}
+use Rattle.bp_check.proofs.Intakes.{scanned_kept}
 use Rattle.bp_check.proofs.Ending.{answered, whole_on}
-use Rattle.bp_check.proofs.pass.Pass.answer.Goals as goal
+use Rattle.bp_check.proofs.intake.Intake.answer.Goals as goal
 
 pub set_sheet-requires : goal.set_sheet-requires
 set_sheet-requires c = let a = c.requires.whole in record { scanned = (a.0, a.1, a.2.nodes, a.2.nodes, a.2.scanned) }

@@ -1,13 +1,13 @@
 use Rattle.std.proofs.Common.{All, Err, false, ◌≢◌, refl, sym, subst}
-use Rattle.bp_check.proofs.Passing.{fed_held, passing_free}
+use Rattle.bp_check.proofs.Intakes.{fed_held, underway_free}
 use Rattle.bp_check.proofs.Ending.{finishes, unended, empty_line, some_line}
-use Rattle.bp_check.proofs.pass.Pass.end.Goals as goal
+use Rattle.bp_check.proofs.intake.Intake.end.Goals as goal
 
 pub returns-then-is_empty : goal.returns-then-is_empty
 returns-then-is_empty c = finishes c.args.self.now c.requires.whole (empty_line c.as_slice-line.result.now c.args.self.now.held c.as_slice-line.ensures c.if-is_empty.ensures) c.finish.result c.finish.ensures
 
 pub feed-requires-clause-free : goal.feed-requires-clause-free
-feed-requires-clause-free c = subst (All (λ b. b ≢ 10)) (sym c.as_slice-line.ensures) (passing_free c.args.self.now c.requires.whole c.requires.passing)
+feed-requires-clause-free c = subst (All (λ b. b ≢ 10)) (sym c.as_slice-line.ensures) (underway_free c.args.self.now c.requires.whole c.requires.underway)
 
 pub returns : goal.returns
 returns c =

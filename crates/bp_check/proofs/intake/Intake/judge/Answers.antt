@@ -1,7 +1,7 @@
 use Rattle.std.proofs.Common.{arith, ◌++◌, ◌∷◌, []}
-use Rattle.bp_check.proofs.Passing.{scanned_kept, scanned_room, judged}
-use Rattle.bp_check.proofs.Walking.{at_ok}
-use Rattle.bp_check.proofs.pass.Pass.judge.Goals as goal
+use Rattle.bp_check.proofs.Intakes.{scanned_kept, scanned_room, judged}
+use Rattle.bp_check.proofs.Visiting.{at_ok}
+use Rattle.bp_check.proofs.intake.Intake.judge.Goals as goal
 
 pub set_sheet-requires : goal.set_sheet-requires
 set_sheet-requires c = let a = c.requires.ahead in record { scanned = (a.0, a.1, a.2 ++ c.args.node ∷ [], a.2, a.3) }

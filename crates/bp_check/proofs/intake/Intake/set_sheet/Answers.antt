@@ -1,5 +1,5 @@
-use Rattle.bp_check.proofs.Passing.{told_sheet, set_some}
-use Rattle.bp_check.proofs.pass.Pass.set_sheet.Goals as goal
+use Rattle.bp_check.proofs.Intakes.{told_sheet, set_some}
+use Rattle.bp_check.proofs.intake.Intake.set_sheet.Goals as goal
 
 pub set_sheet-requires : goal.set_sheet-requires
 set_sheet-requires c = told_sheet c.args.self.now c.in-Some.head.now c.in-Some.ensures.head c.in-Some.ensures.told c.requires.scanned

@@ -1,11 +1,11 @@
 use Rattle.std.proofs.Common.{arith, take}
 use Rattle.std.proofs.lemmas.List.{take_all}
 use Rattle.bp_document.proofs.ReadBytes.{piece_free}
-use Rattle.bp_check.proofs.Passing.{takes_none_more, takes_as, next_taken, next_within, passing_on}
-use Rattle.bp_check.proofs.pass.Pass.take.Goals as goal
+use Rattle.bp_check.proofs.Intakes.{takes_none_more, takes_as, next_taken, next_within, underway_on}
+use Rattle.bp_check.proofs.intake.Intake.take.Goals as goal
 
 pub loop-here-init : goal.loop-here-init
-loop-here-init c = (omega arith, c.requires.passing, takes_none_more c.args.self.now)
+loop-here-init c = (omega arith, c.requires.underway, takes_none_more c.args.self.now)
 
 pub take_part-requires-clause-free : goal.take_part-requires-clause-free
 take_part-requires-clause-free c = piece_free c.args.bytes.now c.loop-here.at c.in-Some.here c.in-Some.ensures
@@ -13,7 +13,7 @@ take_part-requires-clause-free c = piece_free c.args.bytes.now c.loop-here.at c.
 pub loop-here-preserved : goal.loop-here-preserved
 loop-here-preserved c = (
   next_within c.args.bytes.now c.loop-here.at c.in-Some.here c.in-Some.ensures,
-  passing_on c.loop-here.self c.take_part.new.self _ c.loop-here.invariant.1 c.in_ok-take_part.ensures,
+  underway_on c.loop-here.self c.take_part.new.self _ c.loop-here.invariant.1 c.in_ok-take_part.ensures,
   next_taken c.args.bytes.now c.loop-here.at c.in-Some.here c.in-Some.ensures c.args.self.now c.loop-here.self c.take_part.new.self c.loop-here.invariant.2 c.in_ok-take_part.ensures,
 )
 

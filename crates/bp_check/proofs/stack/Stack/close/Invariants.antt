@@ -1,10 +1,10 @@
 use Rattle.std.proofs.Common.{◌≡◌, length}
-use Rattle.bp_check.specs.Stack.{IsKept, closed}
+use Rattle.bp_check.specs.Stack.{IsStack, closed}
 use Rattle.bp_check.proofs.stack.Stack.close.Given as goal
 
 abbrev pub invariant-loop-self : goal.invariant-loop-self
 invariant-loop-self l = record {
-  kept : IsKept l.metric.tree l.metric.sheet l.self;
+  kept : IsStack l.metric.tree l.metric.sheet l.self;
   count : l.self.count ≡ l.initial.self.count;
   same : closed l.metric.tree l.metric.sheet l.depth l.self ≡ closed l.metric.tree l.metric.sheet l.depth l.initial.self;
 }
