@@ -53,7 +53,7 @@ leaves_far T t i j first second differ = elim (cases_lt i j) [
   ]
 ]
 
-is_leaf_leaf : (T : TreeValue) (i : ℕ) → IsTrue (is_leaf T i) → IsLeaf T i
+pub is_leaf_leaf : (T : TreeValue) (i : ℕ) → IsTrue (is_leaf T i) → IsLeaf T i
 is_leaf_leaf T i is =
     let parts = and_parts (nat_le 1 i) (nat_le i (leaf_count T)) is in
     (leb-true 1 i parts.0, leb-true i (leaf_count T) parts.1)

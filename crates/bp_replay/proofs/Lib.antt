@@ -1,0 +1,4 @@
+pub mod Breaks
+pub mod Shown
+pub mod Applied
+pub mod Closing

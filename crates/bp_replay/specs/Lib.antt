@@ -1,0 +1,4 @@
+pub mod Sets
+pub mod Tasks
+pub mod Kept
+pub mod Stored
