@@ -83,7 +83,7 @@ fn placed(alloc: Global, tree: &Tree, side: u64, points: &[Point]) -> Result<Opt
     one_contours(&metric);
     let points = Sequence::from_vec(Vec::from_slice(alloc, points)?);
     let placement = Placement { side, points };
-    Ok(Some(Regions::of(alloc, tree, &metric, &placement)?))
+    Ok(Some(Regions::of(alloc, &metric, &placement)?))
 }
 
 // Whether the edge reaches the cell; a coordinate below 0 has wrapped to a great one.

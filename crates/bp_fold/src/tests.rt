@@ -68,7 +68,7 @@ fn placed(alloc: Global, tree: &Tree, side: u64, points: &[Point]) -> Result<Opt
         return Ok(None);
     }
     let points = Sequence::from_vec(Vec::from_slice(alloc, points)?);
-    let regions = Regions::of(alloc, tree, &metric, &Placement { side, points })?;
+    let regions = Regions::of(alloc, &metric, &Placement { side, points })?;
     Ok(Some(regions))
 }
 

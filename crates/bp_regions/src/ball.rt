@@ -7,7 +7,7 @@ ghost use Rattle.bp_base.specs.Point.{IsSmallPoint};
 ghost use Rattle.bp_regions.specs.Cells.{IsInBall};
 ghost use Rattle.bp_regions.specs.Balls.{IsSmallBall, ball_of, balls_of, row_of, HoldsCell};
 
-use bp_base::{NoMemory, Point, Tree};
+use bp_base::{NoMemory, Point};
 use bp_metric::Metric;
 use std::alloc::Global;
 
@@ -19,18 +19,12 @@ pub struct Ball {
 }
 
 // The balls of all edges, and for each of all leaves in order; a leaf that isn't below the edge has radius 0.
-pub fn balls_of(
-    alloc: Global,
-    tree: &Tree,
-    metric: &Metric,
-    points: &[Point],
-) -> Result<Vec<Ball>, NoMemory>
-    requires metric { metric.now.tree ≡ tree.now }
-    requires points { length points.now ≡ leaf_count tree.now }
-    ensures { IfOk result (λ v. v.items ≡ balls_of tree.now points.now) }
+pub fn balls_of(alloc: Global, metric: &Metric, points: &[Point]) -> Result<Vec<Ball>, NoMemory>
+    requires { length points.now ≡ leaf_count metric.now.tree }
+    ensures { IfOk result (λ v. v.items ≡ balls_of metric.now.tree points.now) }
 {
     let mut balls = Vec::new(alloc);
-    let count = tree.parents().len() as u64;
+    let count = metric.tree().parents().len() as u64;
     for edge in 1..count {
         add_row(&mut balls, metric, points, edge)?;
     }

@@ -41,33 +41,37 @@ impl Model for Regions {
 }
 
 impl Regions {
-    /// The regions of a placement that is valid at its side.
-    pub fn of(
-        alloc: Global,
-        tree: &Tree,
-        metric: &Metric,
-        placement: &Placement,
-    ) -> Result<Regions, NoMemory>
-        requires metric { metric.now ≡ record { tree = tree.now; sheet = Square } }
+    /// The regions of a placement of the metric's tree on a square, which is valid at its side.
+    pub fn of(alloc: Global, metric: &Metric, placement: &Placement) -> Result<Regions, NoMemory>
+        requires sheet { metric.now.sheet ≡ Square }
         requires side { placement.now.side ≤ most_number }
-        requires valid { Valid tree.now Square 1 placement.now.side placement.now.points }
-        ensures value { IfOk result (λ r. r ≡ record { tree = tree.now; side = placement.now.side; points = placement.now.points }) }
+        requires valid { Valid metric.now.tree Square 1 placement.now.side placement.now.points }
+        ensures value { IfOk result (λ r. r ≡ record { tree = metric.now.tree; side = placement.now.side; points = placement.now.points }) }
         ensures regions { IfOk result (λ r. AreRegions r) }
     {
-        let copy = tree.copy(alloc)?;
+        let tree = metric.tree().copy(alloc)?;
         let side = placement.side;
         let points = Vec::from_slice(alloc, placement.points.as_slice())?;
-        let balls = balls_of(alloc, tree, metric, &points)?;
+        let balls = balls_of(alloc, metric, &points)?;
         let xs = cuts_of(alloc, side, &balls, Axis::X)?;
         let ys = cuts_of(alloc, side, &balls, Axis::Y)?;
         Ok(Regions {
-            tree: copy,
+            tree,
             side,
             points,
             balls,
             xs,
             ys,
         })
+    }
+
+    /// The tree.
+    pub fn tree(&self) -> &Tree
+        ensures tree { result.now ≡ self.now.tree }
+        ensures regions { AreRegions self.now }
+    {
+        let _tree = self.tree.parents();
+        &self.tree
     }
 
     /// Whether Reach of the edge holds the cell.

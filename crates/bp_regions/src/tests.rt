@@ -83,7 +83,7 @@ fn placed(alloc: Global, tree: &Tree, side: u64, points: &[Point]) -> Result<Reg
     law_of_regions(&metric);
     law_of_cuts(&metric);
     let points = Sequence::from_vec(Vec::from_slice(alloc, points)?);
-    Ok(Regions::of(alloc, tree, &metric, &Placement { side, points })?)
+    Ok(Regions::of(alloc, &metric, &Placement { side, points })?)
 }
 
 // The middle of the cell is nearer than the radius, both counted in halves.
