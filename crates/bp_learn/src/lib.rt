@@ -1,0 +1,24 @@
+//! A search that learns a lemma at each dead end.
+#![tactic(auto)]
+
+mod activity;
+mod analysis;
+mod facts;
+mod figure;
+mod knowledge;
+mod layout;
+mod lemmas;
+mod problem;
+mod proof;
+mod propagation;
+mod reasons;
+mod run;
+mod search;
+mod swaps;
+mod watches;
+
+pub use figure::Figure;
+pub use layout::Layout;
+pub use proof::Proof;
+pub use run::{Learned, learn};
+pub use swaps::Swaps;
