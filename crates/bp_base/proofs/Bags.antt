@@ -127,17 +127,17 @@ module _ {X : Type 0} (eq : X → X → Bool) (same : (x : X) → eq x x ≡ tru
       let c = moved ys xs x (same_sym xs ys both) (i, less, get_or_default ys i x d less) in
       subst P c.2 (all c.0 x c.1)
 
-both_true : (a b : Bool) → (a && b) ≡ true → (a ≡ true) × (b ≡ true)
+pub both_true : (a b : Bool) → (a && b) ≡ true → (a ≡ true) × (b ≡ true)
 both_true true b e = (refl, e)
 both_true false b e = absurd (true≢false (sym e))
 
-equal : (m n : ℕ) → (m == n) ≡ true → m ≡ n
+pub equal : (m n : ℕ) → (m == n) ≡ true → m ≡ n
 equal m n e = grind (arith, nat_tests)
 
-itself : (m : ℕ) → (m == m) ≡ true
+pub itself : (m : ℕ) → (m == m) ≡ true
 itself m = grind (arith, nat_tests)
 
-choice_from : (c d : Choice) → choice_number c ≡ choice_number d → c ≡ d
+pub choice_from : (c d : Choice) → choice_number c ≡ choice_number d → c ≡ d
 choice_from Left Left e = refl
 choice_from Right Right e = refl
 choice_from Below Below e = refl
@@ -155,10 +155,10 @@ choice_from Above Left e = absurd (omega arith)
 choice_from Above Right e = absurd (omega arith)
 choice_from Above Below e = absurd (omega arith)
 
-step_itself : (s : Step) → same_step s s ≡ true
+pub step_itself : (s : Step) → same_step s s ≡ true
 step_itself s = rw (itself s.pair.i, itself s.pair.j, itself (choice_number s.choice)) refl
 
-step_sound : (s t : Step) → same_step s t ≡ true → s ≡ t
+pub step_sound : (s t : Step) → same_step s t ≡ true → s ≡ t
 step_sound s t e =
     let outer = both_true ((s.pair.i == t.pair.i) && (s.pair.j == t.pair.j)) (choice_number s.choice == choice_number t.choice) e in
     let inner = both_true (s.pair.i == t.pair.i) (s.pair.j == t.pair.j) outer.0 in
@@ -167,11 +167,11 @@ step_sound s t e =
     let c = choice_from s.choice t.choice (equal (choice_number s.choice) (choice_number t.choice) outer.1) in
     λ k. record { pair = record { i = i k; j = j k }; choice = c k }
 
-path_itself : (p : List Step) → same_path p p ≡ true
+pub path_itself : (p : List Step) → same_path p p ≡ true
 path_itself [] = refl
 path_itself (s ∷ ss) = rw (step_itself s) (path_itself ss)
 
-path_sound : (p q : List Step) → same_path p q ≡ true → p ≡ q
+pub path_sound : (p q : List Step) → same_path p q ≡ true → p ≡ q
 path_sound [] [] e = refl
 path_sound [] (t ∷ ts) e = absurd (true≢false (sym e))
 path_sound (s ∷ ss) [] e = absurd (true≢false (sym e))

@@ -1,3 +1,5 @@
+-- What the types of this crate keep and promise: Limits, Name, Tree, Point, Causes, Path, Chain and Bags. Padded alone serves the
+-- code within: how a name lies in memory.
 pub mod Limits
 pub mod Name
 pub mod Tree

@@ -7,9 +7,12 @@ pub struct Task {
     pub bound: u64,
 }
 
+/// What became of a branch that was examined.
 #[derive(Drop)]
 pub enum RecordKind {
+    /// It has a child for each allowed choice of this pair, and these are branches of their own.
     Split { pair: Pair },
+    /// It has no children: this claim of its path says which side it needs at least, or that it can't be met.
     Closed { claim: Claim },
 }
 

@@ -25,7 +25,9 @@ impl Model for Tree {
 }
 
 impl Tree {
-    /// The tree of these nodes.
+    /// The tree of these nodes: the parent, the length of the edge above, in grid units, and the name of each, by rising numbers.
+    /// Entry 0 of the parents and of the lengths is 0. A parent has a lesser number than its children, the root at least two of
+    /// them. Lengths are from 1 to 1,000, names differ, and there are at most 64 nodes and 32 leaves. It takes no memory.
     pub fn of(parents: Vec<u64>, lengths: Vec<u64>, names: Vec<Name>) -> Tree
         requires { IsTree (record { parents = parents.items; lengths = lengths.items; names = names.items }) }
         ensures value { result ≡ record { parents = parents.items; lengths = lengths.items; names = names.items } }

@@ -7,9 +7,8 @@ use Rattle.std.proofs.Math.Nat.{mul-le-mul}
 use Rattle.bp_base.specs.declared.point.Sheet.{Sheet}
 use Rattle.bp_base.specs.declared.point.Sheet.TheVariants.{Square, Strip}
 use Rattle.bp_base.specs.Limits.{most_leaves}
-use Rattle.bp_metric.specs.Distance.{most_distance}
+use Rattle.bp_metric.specs.Distance.{most_distance, most_side}
 use Rattle.bp_metric.specs.Floor.{room_of, rows_for, box_side}
-use Rattle.bp_floor.specs.Small.{most_floor_side}
 
 find_range : (p : ℕ → Bool) (a n r : ℕ) → a ≤ r → r < a + n → ((k : ℕ) → a ≤ k → k < r → p k ≡ false) → p r ≡ true → find p (range_with_len a n) ≡ Some r
 find_range p a zero r from to before here = absurd (omega arith)
@@ -93,10 +92,10 @@ rows_some G m K positive = elim (cases_lt (rows_for G m K) 1) [
 ]
 
 -- the side of few points
-pub side_small : (m r : ℕ) → m ≤ most_distance → r ≤ most_leaves → m * (r - 1) ≤ most_floor_side
+pub side_small : (m r : ℕ) → m ≤ most_distance → r ≤ most_leaves → m * (r - 1) ≤ most_side
 side_small m r near few =
     let less : r - 1 ≤ 31 = omega arith in
     mul-le-mul near less
 
-pub box_side_small : (G : Sheet) (m K : ℕ) → m ≤ most_distance → K ≤ most_leaves → box_side G m K ≤ most_floor_side
+pub box_side_small : (G : Sheet) (m K : ℕ) → m ≤ most_distance → K ≤ most_leaves → box_side G m K ≤ most_side
 box_side_small G m K near few = let r = rows_few G m K in side_small m (rows_for G m K) near (omega (arith, r))

@@ -16,7 +16,7 @@ use Rattle.bp_incumbent.specs.declared.tickets.TicketKey.{TicketKey}
 use Rattle.bp_incumbent.specs.declared.tickets.Ticket.{Ticket}
 use Rattle.bp_incumbent.specs.declared.tickets.Drawn.{Drawn}
 use Rattle.bp_incumbent.specs.declared.tickets.TicketView.{TicketView}
-use Rattle.bp_incumbent.specs.Tickets.{is_spent, IsRising, AllRising, weight_of, all_spent, IsKept, TicketHolds, drawn, ticket, ticket_view, undrawn, dealt_rest, dealt_one, both, none, tickets_of, one_more, with_ticket, NamesUnspent, IsAbove, Drew}
+use Rattle.bp_incumbent.specs.Tickets.{is_spent, IsRising, AllRising, weight_of, all_spent, KeepsTickets, TicketHolds, drawn, ticket, ticket_view, undrawn, dealt_rest, dealt_one, both, none, tickets_of, one_more, with_ticket, NamesUnspent, IsAbove, Drew}
 use Rattle.bp_incumbent.proofs.Entries.{cut, only, only_changed, unchanged, part_le, new_numbers, new_none, all_here, ones_up_to, below_more, none_at_end}
 
 -- What a view adds to each sum.
@@ -34,7 +34,7 @@ abbrev spent : ℕ → TicketView → ℕ
 spent limit v = sum_by (spent_entry limit) v.passes
 
 -- no more passes are spent than there are
-spent_le : (limit passes word : ℕ) (views : List TicketView) → IsKept limit passes word views → all_spent limit views ≤ passes
+spent_le : (limit passes word : ℕ) (views : List TicketView) → KeepsTickets limit passes word views → all_spent limit views ≤ passes
 spent_le limit passes word views kept =
     omega (arith, sum_by-mono (spent limit) (numbers (λ x. 1)) views (λ v. sum_by-mono (spent_entry limit) (λ (p : Drawn). 1) v.passes (λ p. flag_le (is_spent limit p.tickets))), kept.numbers (λ x. 1), ones_up_to passes)
   where
@@ -56,7 +56,7 @@ rising_push limit n side (t ∷ []) r u above = (above 0 t (omega arith), unspen
 rising_push limit n side (t ∷ v ∷ vs) r u above = (r.0, r.1, rising_push limit n side (v ∷ vs) r.2 u (λ k d lt. above (suc k) d (omega arith)))
 
 -- each ticket of a view is below the word
-above : (limit passes word i : ℕ) (views : List TicketView) (v : TicketView) → IsKept limit passes word views → get_elem? views i ≡ some v → IsAbove word v
+above : (limit passes word i : ℕ) (views : List TicketView) (v : TicketView) → KeepsTickets limit passes word views → get_elem? views i ≡ some v → IsAbove word v
 above limit passes word i views v kept at k d lt j e less =
     let p : Drawn = get_or v.passes k d in
     let t : Ticket = get_or p.tickets j e in
@@ -94,7 +94,7 @@ more_spent limit n side old new v named set few =
     go : new ≡ old + flag (leb limit n) → n + 1 ≤ limit + new
     go e = grind (arith, nat_tests)
 
-draws : (limit passes word i side : ℕ) (views : List TicketView) (v : TicketView) → NamesUnspent limit v → IsKept limit passes word views → get_elem? views i ≡ some v → IsKept limit passes (word + 1) (set views i (with_ticket v word side))
+draws : (limit passes word i side : ℕ) (views : List TicketView) (v : TicketView) → NamesUnspent limit v → KeepsTickets limit passes word views → get_elem? views i ≡ some v → KeepsTickets limit passes (word + 1) (set views i (with_ticket v word side))
 draws limit passes word i side views v named kept at =
     let w = with_ticket v word side in let p = named.0 in let more = one_more (ticket word side) in
     record {
@@ -115,7 +115,7 @@ pub draws_allowed : {S : Type 0} (key : TicketKey) (slots id side : ℕ) (me : M
     → Allows (TicketHolds key) slots id me 0 (λ n. (n + 1) % 18446744073709551616) (λ found after. Drew me found side after)
 draws_allowed key slots id side me named small few s holds _ at _ =
     let n : ℕ = slice_index s.words 0 in
-    let kept : IsKept key.limit key.passes n s.views = subst (λ (k : ℕ). IsKept key.limit key.passes k s.views) (sym (ap (λ (l : List ℕ). slice_index l 0) holds.1)) holds.2 in
+    let kept : KeepsTickets key.limit key.passes n s.views = subst (λ (k : ℕ). KeepsTickets key.limit key.passes k s.views) (sym (ap (λ (l : List ℕ). slice_index l 0) holds.1)) holds.2 in
     let le : n ≤ key.limit + most_hands = omega (arith, kept.few, spent_le key.limit key.passes n s.views kept) in
     let next = no_wrap n key.limit le small in (
       with_ticket me.0 n side,
@@ -124,7 +124,7 @@ draws_allowed key slots id side me named small few s holds _ at _ =
       (
         (n + 1) % 18446744073709551616,
         ap (λ (l : List ℕ). slice_set l 0 ((n + 1) % 18446744073709551616)) holds.1,
-        subst (λ (k : ℕ). IsKept key.limit key.passes k (set s.views id (with_ticket me.0 n side))) (sym next) (draws key.limit key.passes n id side s.views me.0 named kept at),
+        subst (λ (k : ℕ). KeepsTickets key.limit key.passes k (set s.views id (with_ticket me.0 n side))) (sym next) (draws key.limit key.passes n id side s.views me.0 named kept at),
       ),
       (refl, above key.limit key.passes n id s.views me.0 kept at),
     )
@@ -169,7 +169,7 @@ ends_once key id v ws xs n end all is h =
     let here = all_here (λ (v : TicketView). v.passes) (weight_of h) s.views id v (kept.numbers (λ x. 1) ∙ ones_up_to key.passes ∙ sym all) at in
     sum_by-map h (λ (t : Ticket). t.number) (tickets_of v) ∙ sum_by-flat_map (λ (t : Ticket). h t.number) (λ (p : Drawn). p.tickets) v.passes ∙ sym here ∙ kept.once h ∙ ap (λ (k : ℕ). sum_by h (range_with_len 0 k)) e
 
-pub begins : (limit p : ℕ) → IsKept limit p 0 (ticket_view (undrawn 1 p) ∷ [])
+pub begins : (limit p : ℕ) → KeepsTickets limit p 0 (ticket_view (undrawn 1 p) ∷ [])
 begins limit p = let v = ticket_view (undrawn 1 p) in record {
   numbers = λ h. omega (arith, sum_by-cons (numbers h) v [], new_numbers (λ (q : Drawn). h q.number) (λ number. drawn number []) h 1 p (λ i. refl));
   once = λ h. omega (arith, sum_by-cons (tickets h) v [], new_none (weight_of h) (λ number. drawn number []) 1 p (λ i. refl));

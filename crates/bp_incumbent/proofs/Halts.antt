@@ -12,7 +12,7 @@ use Rattle.bp_incumbent.specs.Entries.{flag}
 use Rattle.bp_incumbent.specs.declared.halt.HaltKey.{HaltKey}
 use Rattle.bp_incumbent.specs.declared.halt.Halts.{Halts}
 use Rattle.bp_incumbent.specs.declared.halt.HaltView.{HaltView}
-use Rattle.bp_incumbent.specs.Halt.{halts_in, all_halts, reads_in, all_reads, IsKept, HaltHolds, halts, halt_view, running, dealt_rest, dealt_one, both, none, as_set, reading, halting, with_read, with_halt, NamesOne, Loaded, Halted}
+use Rattle.bp_incumbent.specs.Halt.{halts_in, all_halts, reads_in, all_reads, KeepsHalt, HaltHolds, halts, halt_view, running, dealt_rest, dealt_one, both, none, as_set, reading, halting, with_read, with_halt, NamesOne, Loaded, Halted}
 use Rattle.bp_incumbent.proofs.Entries.{cut, only, only_changed, unchanged, new_numbers, new_none, all_here, ones_up_to}
 
 -- What a view adds to each sum.
@@ -32,7 +32,7 @@ read_bound zero old new true e le = omega (arith, e, le)
 read_bound zero old new false e le = omega (arith, e, le)
 read_bound (suc word) old new b e le = omega arith
 
-loads : (p word i : ℕ) (views : List HaltView) (v : HaltView) → NamesOne v → IsKept p word views → get_elem? views i ≡ some v → IsKept p word (set views i (with_read v word))
+loads : (p word i : ℕ) (views : List HaltView) (v : HaltView) → NamesOne v → KeepsHalt p word views → get_elem? views i ≡ some v → KeepsHalt p word (set views i (with_read v word))
 loads p word i views v named kept at =
     let w = with_read v word in record {
       numbers = λ h. omega (arith, total_set (numbers h) views i v w at, unchanged (λ (q : Halts). h q.number) (reading word) (λ q. refl) v.passes, kept.numbers h);
@@ -41,7 +41,7 @@ loads p word i views v named kept at =
           (omega (arith, total_set reads_in views i v w at, only read_entry v.passes named.0 named.1, only_changed read_entry (reading word) v.passes named.0 named.1)) kept.was_read;
     }
 
-sets : (p word i : ℕ) (views : List HaltView) (v : HaltView) → NamesOne v → IsKept p word views → get_elem? views i ≡ some v → IsKept p 1 (set views i (with_halt v))
+sets : (p word i : ℕ) (views : List HaltView) (v : HaltView) → NamesOne v → KeepsHalt p word views → get_elem? views i ≡ some v → KeepsHalt p 1 (set views i (with_halt v))
 sets p word i views v named kept at =
     let w = with_halt v in record {
       numbers = λ h. omega (arith, total_set (numbers h) views i v w at, unchanged (λ (q : Halts). h q.number) halting (λ q. refl) v.passes, kept.numbers h);
@@ -54,8 +54,8 @@ sets p word i views v named kept at =
 abbrev the_word : {S : Type 0} → State S HaltView → ℕ
 the_word s = slice_index s.words 0
 
-kept_of : {S : Type 0} (key : HaltKey) (s : State S HaltView) → HaltHolds key s → IsKept key.passes (the_word s) s.views
-kept_of key s holds = subst (λ (k : ℕ). IsKept key.passes k s.views) (sym (ap (λ (l : List ℕ). slice_index l 0) holds.1)) holds.2
+kept_of : {S : Type 0} (key : HaltKey) (s : State S HaltView) → HaltHolds key s → KeepsHalt key.passes (the_word s) s.views
+kept_of key s holds = subst (λ (k : ℕ). KeepsHalt key.passes k s.views) (sym (ap (λ (l : List ℕ). slice_index l 0) holds.1)) holds.2
 
 word_set : {S : Type 0} (key : HaltKey) (s : State S HaltView) (n : ℕ) → HaltHolds key s → slice_set s.words 0 n ≡ n ∷ []
 word_set key s n holds = ap (λ (l : List ℕ). slice_set l 0 n) holds.1
@@ -74,7 +74,7 @@ sets_allowed key slots id me named s holds _ at _ =
     let n : ℕ = the_word s in
     let kept = kept_of key s holds in
     let next = set_once n (all_halts s.views) kept.is_set in
-    (with_halt me.0, keeps, tt, (bit_or n 1, word_set key s (bit_or n 1) holds, subst (λ (k : ℕ). IsKept key.passes k (set s.views id (with_halt me.0))) (sym next) (sets key.passes n id s.views me.0 named kept at)), refl)
+    (with_halt me.0, keeps, tt, (bit_or n 1, word_set key s (bit_or n 1) holds, subst (λ (k : ℕ). KeepsHalt key.passes k (set s.views id (with_halt me.0))) (sym next) (sets key.passes n id s.views me.0 named kept at)), refl)
 
 pub deals : {S : Type 0} (key : HaltKey) (id : ℕ) (v : HaltView) → Splits {S = S} (HaltHolds key) id v (dealt_rest v) (dealt_one v)
 deals key id v s holds at =
@@ -106,7 +106,7 @@ ends_read key id v ws xs end all more =
     let here = all_here (λ (v : HaltView). v.passes) halted_entry s.views id v (kept.numbers (λ x. 1) ∙ ones_up_to key.passes ∙ sym all) at in
     omega (arith, more, kept.was_read, kept.is_set, total_at reads_in s.views id v at, here)
 
-pub begins : (p : ℕ) → IsKept p 0 (halt_view (running 1 p) ∷ [])
+pub begins : (p : ℕ) → KeepsHalt p 0 (halt_view (running 1 p) ∷ [])
 begins p = let v = halt_view (running 1 p) in let entry : ℕ → Halts = λ number. halts number false false in record {
   numbers = λ h. omega (arith, sum_by-cons (numbers h) v [], new_numbers (λ (q : Halts). h q.number) entry h 1 p (λ i. refl));
   is_set = omega (arith, sum_by-cons halts_in v [], new_none halted_entry entry 1 p (λ i. refl));

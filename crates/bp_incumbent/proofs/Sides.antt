@@ -12,7 +12,7 @@ use Rattle.bp_incumbent.specs.Entries.{one_at, times}
 use Rattle.bp_incumbent.specs.declared.side.SideKey.{SideKey}
 use Rattle.bp_incumbent.specs.declared.side.Offers.{Offers}
 use Rattle.bp_incumbent.specs.declared.side.SideView.{SideView}
-use Rattle.bp_incumbent.specs.Side.{offers_of, sides_of, all_seen, all_offers, IsKept, SideHolds, side_view, offers, unoffered, dealt_rest, dealt_one, noted, both, none, one_more, with_offer, with_seen, NamesOne, Loaded, Lowered, IsLeast, IsKnown}
+use Rattle.bp_incumbent.specs.Side.{offers_of, sides_of, all_seen, all_offers, KeepsSide, SideHolds, side_view, offers, unoffered, dealt_rest, dealt_one, noted, both, none, one_more, with_offer, with_seen, NamesOne, Loaded, Lowered, IsLeast, IsKnown}
 use Rattle.bp_incumbent.proofs.Entries.{cut, only, only_changed, unchanged, part_le, new_numbers, new_none, all_here, ones_up_to, one_same, one_other, times-append, times_push, none_below, contained}
 
 -- What a view adds to each sum.
@@ -30,11 +30,11 @@ offered_is : (y : ℕ) (v : SideView) → times y (offers_of v) ≡ offered y v
 offered_is y v = sum_by-flat_map (one_at y) (λ (p : Offers). p.sides) v.passes
 
 -- the word is at most each side that a view has
-word_below : (o p word i : ℕ) (views : List SideView) (v : SideView) → IsKept o p word views → get_elem? views i ≡ some v → All (λ y. word ≤ y) (sides_of v)
+word_below : (o p word i : ℕ) (views : List SideView) (v : SideView) → KeepsSide o p word views → get_elem? views i ≡ some v → All (λ y. word ≤ y) (sides_of v)
 word_below o p word i views v kept at = none_below word (sides_of v) (λ y lt.
     omega (arith, kept.lower y lt, times-append y v.seen (offers_of v), offered_is y v, total_at (seen y) views i v at, total_at (offered y) views i v at))
 
-sees : (o p word i : ℕ) (views : List SideView) (v : SideView) → IsKept o p word views → get_elem? views i ≡ some v → IsKept o p word (set views i (with_seen v word))
+sees : (o p word i : ℕ) (views : List SideView) (v : SideView) → KeepsSide o p word views → get_elem? views i ≡ some v → KeepsSide o p word (set views i (with_seen v word))
 sees o p word i views v kept at =
     let w = with_seen v word in
     let s : (y : ℕ) → all_seen y (set views i w) ≡ all_seen y views + one_at y word = λ y. omega (arith, total_set (seen y) views i v w at, times_push y v.seen word) in
@@ -54,8 +54,8 @@ sees o p word i views v kept at =
 abbrev the_word : {S : Type 0} → State S SideView → ℕ
 the_word s = slice_index s.words 0
 
-kept_of : {S : Type 0} (key : SideKey) (s : State S SideView) → SideHolds key s → IsKept key.opening key.passes (the_word s) s.views
-kept_of key s holds = subst (λ (k : ℕ). IsKept key.opening key.passes k s.views) (sym (ap (λ (l : List ℕ). slice_index l 0) holds.1)) holds.2
+kept_of : {S : Type 0} (key : SideKey) (s : State S SideView) → SideHolds key s → KeepsSide key.opening key.passes (the_word s) s.views
+kept_of key s holds = subst (λ (k : ℕ). KeepsSide key.opening key.passes k s.views) (sym (ap (λ (l : List ℕ). slice_index l 0) holds.1)) holds.2
 
 word_set : {S : Type 0} (key : SideKey) (s : State S SideView) (n : ℕ) → SideHolds key s → slice_set s.words 0 n ≡ n ∷ []
 word_set key s n holds = ap (λ (l : List ℕ). slice_set l 0 n) holds.1
@@ -66,7 +66,7 @@ sees_allowed key slots id me s holds _ at _ =
     let kept = kept_of key s holds in
     (with_seen me.0 n, keeps, tt, (n, word_set key s n holds, sees key.opening key.passes n id s.views me.0 kept at), (refl, word_below key.opening key.passes n id s.views me.0 kept at))
 
-lowers : (o p word i k : ℕ) (views : List SideView) (v : SideView) → NamesOne v → IsKept o p word views → get_elem? views i ≡ some v → IsKept o p (min word k) (set views i (with_seen (with_offer v k) word))
+lowers : (o p word i k : ℕ) (views : List SideView) (v : SideView) → NamesOne v → KeepsSide o p word views → get_elem? views i ≡ some v → KeepsSide o p (min word k) (set views i (with_seen (with_offer v k) word))
 lowers o p word i k views v named kept at =
     let w = with_seen (with_offer v k) word in
     let s : (y : ℕ) → all_seen y (set views i w) ≡ all_seen y views + one_at y word = λ y. omega (arith, total_set (seen y) views i v w at, times_push y v.seen word) in
@@ -143,13 +143,13 @@ adds key id v other w s holds at _ at_other =
 
 -- The end, where one view stands for all passes.
 
-last : {S : Type 0} (key : SideKey) (id : ℕ) (v : SideView) (ws : List ℕ) (xs : List S) (n : ℕ) (end : Final {S = S} (Seen (SideHolds key) id v) ws xs) → get_elem? ws 0 ≡ some n → IsKept key.opening key.passes n end.0.views
+last : {S : Type 0} (key : SideKey) (id : ℕ) (v : SideView) (ws : List ℕ) (xs : List S) (n : ℕ) (end : Final {S = S} (Seen (SideHolds key) id v) ws xs) → get_elem? ws 0 ≡ some n → KeepsSide key.opening key.passes n end.0.views
 last key id v ws xs n end is =
     let s = end.0 in let holds = end.1.0 in
     let e : holds.0 ≡ n = some-injective holds.0 n (sym (ap (λ (l : List ℕ). get_elem? l 0) holds.1) ∙ ap (λ (l : List ℕ). get_elem? l 0) end.2 ∙ is) in
-    subst (λ (k : ℕ). IsKept key.opening key.passes k s.views) e holds.2
+    subst (λ (k : ℕ). KeepsSide key.opening key.passes k s.views) e holds.2
 
-here : (o p n y id : ℕ) (views : List SideView) (v : SideView) → IsKept o p n views → length v.passes ≡ p → get_elem? views id ≡ some v → all_offers y views ≡ times y (offers_of v)
+here : (o p n y id : ℕ) (views : List SideView) (v : SideView) → KeepsSide o p n views → length v.passes ≡ p → get_elem? views id ≡ some v → all_offers y views ≡ times y (offers_of v)
 here o p n y id views v kept all at =
     all_here (λ (v : SideView). v.passes) (λ (p : Offers). times y p.sides) views id v (kept.numbers (λ x. 1) ∙ ones_up_to p ∙ sym all) at ∙ sym (offered_is y v)
 
@@ -176,7 +176,7 @@ ends_seen key id v ws xs n end all is k d lt =
 
 -- The beginning.
 
-pub begins : (o p : ℕ) → IsKept o p o (side_view (unoffered 1 p) (o ∷ []) ∷ [])
+pub begins : (o p : ℕ) → KeepsSide o p o (side_view (unoffered 1 p) (o ∷ []) ∷ [])
 begins o p =
     let v = side_view (unoffered 1 p) (o ∷ []) in
     let entry : ℕ → Offers = λ number. offers number [] in

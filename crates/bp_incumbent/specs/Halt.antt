@@ -24,13 +24,13 @@ abbrev pub all_reads : List HaltView → ℕ
 all_reads views = sum_by reads_in views
 
 -- Each number stands in one view. The word is 1 exactly where a pass has halted, and else 0. A pass has read it as set only where it is.
-pub record IsKept (passes word : ℕ) (views : List HaltView) : Type 0 where
+pub record KeepsHalt (passes word : ℕ) (views : List HaltView) : Type 0 where
   pub numbers : (h : ℕ → ℕ) → all_numbers h views ≡ sum_by h (range_with_len 1 passes)
   pub is_set : word ≡ min 1 (all_halts views)
   pub was_read : min 1 (all_reads views) ≤ word
 
 abbrev pub HaltHolds : {S : Type 0} → HaltKey → State S HaltView → Type 0
-HaltHolds key s = (word : ℕ) × (s.words ≡ word ∷ []) × IsKept key.passes word s.views
+HaltHolds key s = (word : ℕ) × (s.words ≡ word ∷ []) × KeepsHalt key.passes word s.views
 
 abbrev pub halts : ℕ → Bool → Bool → Halts
 halts number halted was_read = record { number = number; halted = halted; was_read = was_read }

@@ -25,7 +25,7 @@ abbrev pub all_offers : ℕ → List SideView → ℕ
 all_offers y views = sum_by (λ (v : SideView). sum_by (λ (p : Offers). times y p.sides) v.passes) views
 
 -- Each number stands in one view. The word is at most the opening side and every side seen or offered. The word, and each side seen, is the opening side or was offered.
-pub record IsKept (opening passes word : ℕ) (views : List SideView) : Type 0 where
+pub record KeepsSide (opening passes word : ℕ) (views : List SideView) : Type 0 where
   pub numbers : (h : ℕ → ℕ) → all_numbers h views ≡ sum_by h (range_with_len 1 passes)
   pub lower : (y : ℕ) → y < word → all_seen y views + all_offers y views ≡ 0
   pub start : word ≤ opening
@@ -33,7 +33,7 @@ pub record IsKept (opening passes word : ℕ) (views : List SideView) : Type 0 w
   pub seen_from : (y : ℕ) → 0 < all_seen y views → 0 < one_at y opening + all_offers y views
 
 abbrev pub SideHolds : {S : Type 0} → SideKey → State S SideView → Type 0
-SideHolds key s = (word : ℕ) × (s.words ≡ word ∷ []) × IsKept key.opening key.passes word s.views
+SideHolds key s = (word : ℕ) × (s.words ≡ word ∷ []) × KeepsSide key.opening key.passes word s.views
 
 abbrev pub side_view : List Offers → List ℕ → SideView
 side_view passes seen = record { passes = passes; seen = seen }

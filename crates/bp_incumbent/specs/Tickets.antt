@@ -39,14 +39,14 @@ abbrev pub all_spent : ℕ → List TicketView → ℕ
 all_spent limit views = sum_by (λ (v : TicketView). sum_by (λ (p : Drawn). flag (is_spent limit p.tickets)) v.passes) views
 
 -- Each number stands in one view. The tickets are the numbers below the word, each once. The word is at most the limit and the number of spent passes.
-pub record IsKept (limit passes word : ℕ) (views : List TicketView) : Type 0 where
+pub record KeepsTickets (limit passes word : ℕ) (views : List TicketView) : Type 0 where
   pub numbers : (h : ℕ → ℕ) → all_numbers h views ≡ sum_by h (range_with_len 1 passes)
   pub once : (h : ℕ → ℕ) → all_tickets h views ≡ sum_by h (range_with_len 0 word)
   pub few : word ≤ limit + all_spent limit views
   pub rising : (i : ℕ) (v : TicketView) → get_elem? views i ≡ some v → AllRising limit v
 
 abbrev pub TicketHolds : {S : Type 0} → TicketKey → State S TicketView → Type 0
-TicketHolds key s = (word : ℕ) × (s.words ≡ word ∷ []) × IsKept key.limit key.passes word s.views
+TicketHolds key s = (word : ℕ) × (s.words ≡ word ∷ []) × KeepsTickets key.limit key.passes word s.views
 
 abbrev pub drawn : ℕ → List Ticket → Drawn
 drawn number tickets = record { number = number; tickets = tickets }

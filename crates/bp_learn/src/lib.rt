@@ -7,6 +7,7 @@ mod facts;
 mod figure;
 mod knowledge;
 mod layout;
+mod learned;
 mod lemmas;
 mod problem;
 mod proof;
@@ -17,8 +18,5 @@ mod search;
 mod swaps;
 mod watches;
 
-pub use figure::Figure;
-pub use layout::Layout;
+pub use learned::{Learned, learn};
 pub use proof::Proof;
-pub use run::{Learned, learn};
-pub use swaps::Swaps;

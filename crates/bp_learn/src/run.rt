@@ -1,4 +1,7 @@
 // The run over a search: slices of conflicts go in turn to the search below the best side and to one below a limit between bound and side.
+ghost use Rattle.std.specs.Prelude.{IsFalse, IfOk, OnOk};
+ghost use Rattle.bp_learn.specs.Ended.{HasEnded};
+
 use crate::analysis::Analysis;
 use crate::facts::Stop;
 use crate::figure::Figure;
@@ -20,13 +23,12 @@ const SLICE: u64 = 6000;
 
 const PART: u64 = 500;
 
-/// What a run has found: the best placement, which was tested, and the greatest bound that it has lemmas for, which is at least the floor
-/// that it was given. Leaves are numbered from 0.
+// What a run has found: the best layout, and the greatest bound that it has lemmas for. Leaves are numbered from 0.
 #[derive(Drop)]
-pub struct Learned {
+pub struct Run {
     pub figure: Figure,
     pub layout: Layout,
-    /// In grid units.
+    // in grid units
     pub bound: u64,
     pub corner: (u8, u8),
     pub swaps: Swaps,
@@ -146,7 +148,7 @@ struct Try {
 }
 
 impl Try {
-    fn open(alloc: Global, run: &Learned, limit: u32) -> Result<Try, Stop> {
+    fn open(alloc: Global, run: &Run, limit: u32) -> Result<Try, Stop> {
         let problem = problem_of(&run.figure, run.corner, &run.swaps, limit);
         let arranged = run.layout.arranged(&run.figure, run.corner, &run.swaps);
         let mut search = match Search::open(alloc, problem, coordinates_of(&run.figure, &arranged)) {
@@ -169,9 +171,11 @@ impl Try {
     }
 }
 
-impl Learned {
+impl Run {
     // Whether the search goes on: the bound is below the side, and the budget is not spent.
-    fn is_open(&self, budget: u64) -> bool {
+    fn is_open(&self, budget: u64) -> bool
+        ensures { IsFalse result → HasEnded self.now.bound self.now.layout.side self.now.conflicts budget }
+    {
         self.bound < u64::from(self.layout.side) && self.conflicts < budget
     }
 
@@ -219,7 +223,7 @@ impl Learned {
             match outcome {
                 Outcome::Found => {
                     if !self.take(&top.search) {
-                        return Ok(());
+                        return Err(Stop::Full);
                     }
                     self.lower(top)?;
                 }
@@ -263,7 +267,7 @@ impl Learned {
         match outcome {
             Outcome::Found => {
                 if !self.take(&it.search) {
-                    return Ok(0);
+                    return Err(Stop::Full);
                 }
                 self.lower(top)?;
             }
@@ -305,12 +309,14 @@ impl Learned {
         Ok(hard)
     }
 
-    fn go(&mut self, alloc: Global, budget: u64) -> Result<(), Stop> {
+    fn go(&mut self, alloc: Global, budget: u64) -> Result<(), Stop>
+        ensures { OnOk result (HasEnded self.new.bound self.new.layout.side self.new.conflicts budget) }
+    {
         let mut top = Try::open(alloc, self, self.layout.side)?;
         let mut half = None;
         let mut slice = SLICE;
         let mut hard = u32::MAX;
-        for _ in 0..64 {
+        for _ in 0..u64::MAX {
             if !self.is_open(budget) {
                 return Ok(());
             }
@@ -321,16 +327,19 @@ impl Learned {
                 hard = u32::MAX;
             }
         }
-        Ok(())
+        Err(Stop::Full)
     }
 }
 
-fn search_all(alloc: Global, metric: &Metric, floor: u64, budget: u64) -> Result<Learned, Stop> {
+// Searches from a bound that holds, till the side is met or so many lemmas were learned.
+pub fn search_all(alloc: Global, metric: &Metric, floor: u64, budget: u64) -> Result<Run, Stop>
+    ensures { IfOk result (λ r. HasEnded r.bound r.layout.side r.conflicts budget) }
+{
     let figure = Figure::of(metric);
     let corner = figure.corner();
     let swaps = Swaps::of(alloc, metric.tree(), corner)?;
     let layout = Packing::new(alloc).best_of(&figure, TRIES)?;
-    let mut run = Learned {
+    let mut run = Run {
         figure,
         layout,
         bound: floor,
@@ -341,17 +350,4 @@ fn search_all(alloc: Global, metric: &Metric, floor: u64, budget: u64) -> Result
     };
     run.go(alloc, budget)?;
     Ok(run)
-}
-
-/// Searches the least side, from a proved floor in grid units, till so many lemmas were learned.
-pub fn learn(
-    alloc: Global,
-    metric: &Metric,
-    floor: u64,
-    budget: u64,
-) -> Result<Learned, NoMemory> {
-    match search_all(alloc, metric, floor, budget) {
-        Ok(run) => Ok(run),
-        Err(_) => Err(NoMemory),
-    }
 }

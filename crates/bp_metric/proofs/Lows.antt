@@ -15,7 +15,7 @@ use Rattle.bp_base.specs.declared.path.Choice.TheVariants.{Left, Right, Below, A
 use Rattle.bp_base.specs.declared.path.Step.{Step}
 use Rattle.bp_base.specs.Path.{IsPairOf}
 use Rattle.bp_base.specs.Tree.{TreeValue, IsTree, IsLeaf, leaf_count, leaf_node}
-use Rattle.bp_metric.specs.Distance.{leaf_dist, most_distance}
+use Rattle.bp_metric.specs.Distance.{leaf_dist, most_distance, most_side}
 use Rattle.bp_metric.specs.Chains.{PlacesBy, Places, ArePlaced, IsChain, IsCycle, HasCycleOn, HasPairsOf, chain_weight, last_of}
 use Rattle.bp_metric.specs.Coordinates.{IsLow, IsGreatestOn}
 use Rattle.bp_metric.proofs.Distances.{dist_comm, dist_small}
@@ -193,8 +193,8 @@ module _ (T : TreeValue) (t : IsTree T) where
   chain_few path axis xs c = omega (arith, few_leaves (leaf_count T) xs c.are_leaves c.differ, t.leaves_few)
 
   -- no chain weighs more than 31 times the greatest distance
-  pub chain_small : (path : List Step) (axis : Axis) (xs : List ℕ) → IsChain (leaf_count T) path axis xs → chain_weight T xs ≤ 1953000
+  pub chain_small : (path : List Step) (axis : Axis) (xs : List ℕ) → IsChain (leaf_count T) path axis xs → chain_weight T xs ≤ most_side
   chain_small path axis xs c = omega (arith, weight_small xs, chain_few path axis xs c)
 
-  pub low_small : (path : List Step) (axis : Axis) (i v : ℕ) → IsLow T path axis i v → v ≤ 1953000
+  pub low_small : (path : List Step) (axis : Axis) (i v : ℕ) → IsLow T path axis i v → v ≤ most_side
   low_small path axis i v l = omega (arith, l.weighs, chain_small path axis l.chain l.is_chain)

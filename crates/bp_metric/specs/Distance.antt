@@ -37,3 +37,7 @@ radius T i e = dist T (leaf_node T i) (parent T e)
 -- no two leaves are further apart: 63 edges of length 1,000
 abbrev pub most_distance : ℕ
 most_distance = 63000
+
+-- no chain weighs more, and no opening and no floor needs a greater side: 31 times that
+abbrev pub most_side : ℕ
+most_side = 1953000

@@ -1,3 +1,5 @@
+-- The statement, in which all layers speak: Distance, Metric, Valid, Choices, Chains, Coordinates, Next, Opening, Floor,
+-- Refutation, Nodes, Stated, Records and Steady. Table serves the code within: where a distance is kept. Samples serves tests.
 pub mod Distance
 pub mod Metric
 pub mod Table

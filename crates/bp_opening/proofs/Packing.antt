@@ -9,11 +9,11 @@ use Rattle.bp_base.specs.declared.point.Sheet.TheVariants.{Square, Strip}
 use Rattle.bp_base.specs.Limits.{most_leaves}
 use Rattle.bp_base.specs.Tree.{TreeValue, leaf_count}
 use Rattle.bp_base.specs.Point.{origin, point_at, gap}
-use Rattle.bp_metric.specs.Distance.{leaf_dist, most_distance}
+use Rattle.bp_metric.specs.Distance.{leaf_dist, most_distance, most_side}
 use Rattle.bp_metric.specs.Metric.{IsSheet}
 use Rattle.bp_metric.specs.Opening.{IsWithin, IsFree, IsFirst, IsOpening, reach_on, side_of}
 use Rattle.bp_metric.specs.Valid.{Valid, Lies}
-use Rattle.bp_opening.specs.Small.{most_coordinate, IsNearby, IsSmall}
+use Rattle.bp_opening.specs.Small.{IsNearby, IsSmall}
 use Rattle.bp_opening.specs.Sums.{next_leaf, AreNear}
 
 side_push : (G : Sheet) (P : List Point) (p : Point) → side_of G (P ++ p ∷ []) ≡ max (reach_on G p) (side_of G P)
@@ -33,7 +33,7 @@ side_at_most : (G : Sheet) (P : List Point) (m : ℕ) → ((k : ℕ) → k < len
 side_at_most G [] m each = omega arith
 side_at_most G (p ∷ P) m each = omega (arith, each 0 (omega arith), side_at_most G P m (λ k less. each (suc k) (omega arith)))
 
-nearby_reach : (G : Sheet) (p : Point) → IsNearby p → reach_on G p ≤ most_coordinate
+nearby_reach : (G : Sheet) (p : Point) → IsNearby p → reach_on G p ≤ most_side
 nearby_reach Square p near = omega (arith, near.0, near.1)
 nearby_reach (Strip width) p near = near.1
 
@@ -90,8 +90,8 @@ all_nearby G P near = λ k d less.
     let here : IsNearby (get_or P k origin) = subst (λ (j : ℕ). IsNearby (get_or P j origin)) place (near.small (k + 1) (omega arith) (omega arith)) in
     subst IsNearby (get_or_default P k origin d less) here
 
-side_small : (G : Sheet) (P : List Point) → AreNear G P → side_of G P ≤ most_coordinate
-side_small G P near = side_at_most G P most_coordinate (λ k less. nearby_reach G (get_or P k origin) (all_nearby G P near k origin less))
+side_small : (G : Sheet) (P : List Point) → AreNear G P → side_of G P ≤ most_side
+side_small G P near = side_at_most G P most_side (λ k less. nearby_reach G (get_or P k origin) (all_nearby G P near k origin less))
 
 -- the first points of an opening, and the side that they need
 pub record IsFront (T : TreeValue) (G : Sheet) (P : List Point) (s : ℕ) : Type 0 where

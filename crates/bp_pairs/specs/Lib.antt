@@ -1,4 +1,4 @@
+-- The statement: Numbers, Sets, Flaws. No file serves loops alone.
 pub mod Numbers
-pub mod Points
 pub mod Sets
 pub mod Flaws

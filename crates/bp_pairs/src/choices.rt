@@ -3,7 +3,7 @@ ghost use Rattle.std.specs.Prelude.{◌≡◌, ◌<◌, ◌≤◌, ◌↔◌, le
 ghost use Rattle.bp_base.specs.Path.{IsPairOf};
 ghost use Rattle.bp_base.specs.Tree.{leaf_count};
 ghost use Rattle.bp_metric.specs.Choices.{Holds, allowed, are_late_twins};
-ghost use Rattle.bp_pairs.specs.Points.{IsSmallPoint};
+ghost use Rattle.bp_base.specs.Point.{IsSmallPoint};
 ghost use Rattle.bp_pairs.specs.Sets.{choices_of};
 
 use bp_base::{Choice, Pair, Point, Sheet};

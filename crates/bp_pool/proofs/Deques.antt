@@ -16,7 +16,7 @@ use Rattle.crossbeam_deque.specs.Tasks.{Pushes, Takes, Pops, Finds, Forks, Merge
 use Rattle.bp_base.specs.declared.record.Task.{Task}
 use Rattle.bp_pool.specs.declared.deque.Deeds.{Deeds}
 use Rattle.bp_pool.specs.declared.deque.Rights.{Rights}
-use Rattle.bp_pool.specs.Shares.{share, rights, none, untold, facts_of, untouched, fresh, pushed_of, taken_of, all_rights, all_pushed, all_taken, IsKept, pushed_by_first, taken_by_first, with_pushed, with_taken, with_given, count_of, Works, rest_of, dealt_rest, dealt_one, dealt_none, both, HasAll, IsDone, Drains}
+use Rattle.bp_pool.specs.Shares.{share, rights, none, untold, facts_of, untouched, fresh, pushed_of, taken_of, all_rights, all_pushed, all_taken, KeepsTasks, pushed_by_first, taken_by_first, with_pushed, with_taken, with_given, count_of, Works, rest_of, dealt_rest, dealt_one, dealt_none, both, HasAll, IsDone, Drains}
 use Rattle.bp_base.proofs.Bags.{total_set, total_at}
 use Rattle.bp_pool.specs.declared.deque.Facts.{Facts}
 
@@ -89,7 +89,7 @@ front_good P xs ys all = subst (All P) (take-append_seam xs ys) (All-take P (len
 pub back_good : (P : Task → Type 0) (xs ys : List Task) → All P (xs ++ ys) → All P ys
 back_good P xs ys all = subst (All P) (drop-append_seam xs ys) (All-drop P (length xs) (xs ++ ys) all)
 
-pub pushes : (port : ℕ) (v : Rights) (xs : List Task) → Works v → All (IsTaskOf v.facts.leaves) xs → Pushes IsKept port v xs (λ w. w ≡ with_pushed v xs)
+pub pushes : (port : ℕ) (v : Rights) (xs : List Task) → Works v → All (IsTaskOf v.facts.leaves) xs → Pushes KeepsTasks port v xs (λ w. w ≡ with_pushed v xs)
 pushes port v xs works new items views kept at = let w = with_pushed v xs in let is = kept.known port v at works in (
   w,
   record {
@@ -103,7 +103,7 @@ pushes port v xs works new items views kept at = let w = with_pushed v xs in let
 )
 
 -- the rule after tasks xs were taken, which the deque held beside `items`
-pub took : (port : ℕ) (v : Rights) (xs was items : List Task) (views : List Rights) → Works v → ((h : Task → ℕ) → sum_by h was ≡ sum_by h items + sum_by h xs) → ((P : Task → Type 0) → All P was → All P items) → IsKept was views → get_elem? views port ≡ some v → IsKept items (set views port (with_taken v xs))
+pub took : (port : ℕ) (v : Rights) (xs was items : List Task) (views : List Rights) → Works v → ((h : Task → ℕ) → sum_by h was ≡ sum_by h items + sum_by h xs) → ((P : Task → Type 0) → All P was → All P items) → KeepsTasks was views → get_elem? views port ≡ some v → KeepsTasks items (set views port (with_taken v xs))
 took port v xs was items views works less fewer kept at = let w = with_taken v xs in record {
   facts = kept.facts;
   total = omega (arith, total_set count views port v w at, taken_count v.deeds xs, kept.total);
@@ -115,14 +115,14 @@ took port v xs was items views works less fewer kept at = let w = with_taken v x
 mine : (v : Rights) (xs : List Task) (facts : Facts) → v.facts ≡ facts → All (IsTaskOf facts.leaves) xs → All (IsTaskOf v.facts.leaves) xs
 mine v xs facts is all = subst (λ (f : Facts). All (IsTaskOf f.leaves) xs) (sym is) all
 
-pub pops : (port : ℕ) (v : Rights) → Works v → Pops IsKept port v (shares.Takes v)
+pub pops : (port : ℕ) (v : Rights) → Works v → Pops KeepsTasks port v (shares.Takes v)
 pops port v works x items views kept at = (
   with_taken v (x ∷ []),
   took port v (x ∷ []) (items ++ x ∷ []) items views works (λ h. sum_by-append h items (x ∷ [])) (λ P all. front_good P items (x ∷ []) all) kept at,
   (refl, mine v (x ∷ []) kept.facts (kept.known port v at works) (back_good (IsTaskOf kept.facts.leaves) items (x ∷ []) kept.good)),
 )
 
-pub takes : (port : ℕ) (v : Rights) (most : ℕ) → Works v → Takes IsKept port v most (shares.Takes v)
+pub takes : (port : ℕ) (v : Rights) (most : ℕ) → Works v → Takes KeepsTasks port v most (shares.Takes v)
 takes port v most works xs items views _ _ kept at = (
   with_taken v xs,
   took port v xs (xs ++ items) items views works (λ h. omega (arith, sum_by-append h xs items)) (λ P all. back_good P xs items all) kept at,
@@ -144,7 +144,7 @@ rest_taken h [] = refl
 rest_taken h (d ∷ []) = omega arith
 rest_taken h (d ∷ e ∷ es) = omega (arith, t_cons h d es, t_cons h e [], t_cons h d (e ∷ es), t_cons h e es)
 
-pub forks : (port : ℕ) (v : Rights) → Forks IsKept port v (dealt_rest v) (dealt_one v)
+pub forks : (port : ℕ) (v : Rights) → Forks KeepsTasks port v (dealt_rest v) (dealt_one v)
 forks port v items views kept at = let l = dealt_rest v in let r = dealt_one v in let vs = set views port l in record {
   facts = kept.facts;
   total = omega (arith, total_set count views port v l at, sum_by_push count vs r, rest_count v.deeds, kept.total);
@@ -154,7 +154,7 @@ forks port v items views kept at = let l = dealt_rest v in let r = dealt_one v i
   same = λ h. omega (arith, total_set (pushed h) views port v l at, total_set (taken h) views port v l at, sum_by_push (pushed h) vs r, sum_by_push (taken h) vs r, rest_pushed h v.deeds, rest_taken h v.deeds, kept.same h);
 }
 
-pub forks_none : (port : ℕ) (v : Rights) → Forks IsKept port v v (dealt_none v)
+pub forks_none : (port : ℕ) (v : Rights) → Forks KeepsTasks port v v (dealt_none v)
 forks_none port v items views kept at = let r = dealt_none v in let vs = set views port v in record {
   facts = kept.facts;
   total = omega (arith, total_set count views port v v at, sum_by_push count vs r, kept.total);
@@ -164,7 +164,7 @@ forks_none port v items views kept at = let r = dealt_none v in let vs = set vie
   same = λ h. omega (arith, total_set (pushed h) views port v v at, total_set (taken h) views port v v at, sum_by_push (pushed h) vs r, sum_by_push (taken h) vs r, kept.same h);
 }
 
-pub merges : (port : ℕ) (v : Rights) (other : ℕ) (u : Rights) → Works v → Merges IsKept port v other u (both v u) none
+pub merges : (port : ℕ) (v : Rights) (other : ℕ) (u : Rights) → Works v → Merges KeepsTasks port v other u (both v u) none
 merges port v other u works items views kept at _ at' = let b = both v u in let vs = set views port b in record {
   facts = kept.facts;
   total = omega (arith, total_set count views port v b at, total_set count vs other u none at', length-append v.deeds u.deeds, kept.total);
@@ -182,7 +182,7 @@ merges port v other u works items views kept at _ at' = let b = both v u in let 
   );
 }
 
-pub begins : IsKept [] (fresh untold ∷ [])
+pub begins : KeepsTasks [] (fresh untold ∷ [])
 begins = record { facts = untold; total = refl; known = at_first; good = λ k d lt. absurd (omega arith); same = λ h. refl }
   where
     at_first : (i : ℕ) (v : Rights) → get_elem? (fresh untold ∷ []) i ≡ some v → 0 < length v.deeds → v.facts ≡ untold
@@ -226,10 +226,10 @@ others (x ∷ xs) zero (suc j) v u all apart at e = let le = total_at count xs j
 others (x ∷ xs) (suc i) zero v u all apart at e = let le = total_at count xs i v at in omega (arith, le, all, sum_by-cons count x xs, ap count (some-injective x u e))
 others (x ∷ xs) (suc i) (suc j) v u all apart at e = let le = total_at count xs i v at in others xs i j v u (omega (arith, le, all, sum_by-cons count x xs)) (λ z. apart (ap suc z)) at e
 
-all_counted : (items : List Task) (views : List Rights) (port : ℕ) (v : Rights) → HasAll v → IsKept items views → get_elem? views port ≡ some v → all_rights views ≡ length v.deeds
+all_counted : (items : List Task) (views : List Rights) (port : ℕ) (v : Rights) → HasAll v → KeepsTasks items views → get_elem? views port ≡ some v → all_rights views ≡ length v.deeds
 all_counted items views port v all kept at = omega (arith, kept.total, ap (λ (f : Facts). f.total) (kept.known port v at all.0), all.1)
 
-pub finds : (port : ℕ) (v : Rights) → Finds IsKept port v (IsDone v)
+pub finds : (port : ℕ) (v : Rights) → Finds KeepsTasks port v (IsDone v)
 finds port v views kept at all h =
     let a = all_here h views port v (all_counted [] views port v all kept at) at in
     omega (arith, a.0, a.1, kept.same h, sum_by-append h v.facts.given (pushed_of v), ap (λ (f : Facts). sum_by h f.given) (kept.known port v at all.0))
@@ -243,7 +243,7 @@ set_at [] i w v at = absurd (some-ne-none v (sym at))
 set_at (x ∷ xs) zero w v at = refl
 set_at (x ∷ xs) (suc i) w v at = set_at xs i w v at
 
-pub drains : (port : ℕ) (v : Rights) → Works v → Pops IsKept port v (Drains v)
+pub drains : (port : ℕ) (v : Rights) → Works v → Pops KeepsTasks port v (Drains v)
 drains port v works x items views kept at = let w = with_taken v (x ∷ []) in let kept' = took port v (x ∷ []) (items ++ x ∷ []) items views works (λ h. sum_by-append h items (x ∷ [])) (λ P all. front_good P items (x ∷ []) all) kept at in (
   w,
   kept',
@@ -278,7 +278,7 @@ no_task [] z = refl
 no_task (t ∷ ts) z = absurd (omega (arith, z, sum_by-cons (λ (t : Task). 1) t ts))
 
 -- where one pass has all rights and did nothing, and the deque was given nothing, there is nothing in the deque, and the facts are still open
-pub tells : (port : ℕ) (facts : Facts) (v : Rights) → facts.given ≡ [] → v ≡ fresh untold → Forks IsKept port v (fresh facts) none
+pub tells : (port : ℕ) (facts : Facts) (v : Rights) → facts.given ≡ [] → v ≡ fresh untold → Forks KeepsTasks port v (fresh facts) none
 tells port facts v bare new items views kept at = let l = fresh facts in let vs = set views port l in
     let all : HasAll v = subst HasAll (sym new) (omega arith, refl) in
     let counted = all_counted items views port v all kept at in
@@ -297,7 +297,7 @@ tells port facts v bare new items views kept at = let l = fresh facts in let vs 
     }
 
 -- where one pass has all rights, it may give the deque its first tasks
-pub gives : (port : ℕ) (v : Rights) (xs : List Task) → HasAll v → v.facts.given ≡ [] → All (IsTaskOf v.facts.leaves) xs → Pushes IsKept port v xs (λ w. w ≡ with_given v xs)
+pub gives : (port : ℕ) (v : Rights) (xs : List Task) → HasAll v → v.facts.given ≡ [] → All (IsTaskOf v.facts.leaves) xs → Pushes KeepsTasks port v xs (λ w. w ≡ with_given v xs)
 gives port v xs all bare new items views kept at = let w = with_given v xs in let is = kept.known port v at all.0 in
     let counted = all_counted items views port v all kept at in
     let nothing : kept.facts.given ≡ [] = sym (ap (λ (f : Facts). f.given) is) ∙ bare in

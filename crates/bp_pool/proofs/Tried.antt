@@ -6,7 +6,8 @@ use mathlib.Core.Logic.{dite}
 use native.Mathlib.Decide.{ℕ_discrete, dec_le}
 use Rattle.bp_base.specs.declared.record.Task.{Task}
 use Rattle.bp_base.specs.Bags.{AreSame}
-use Rattle.bp_pool.specs.Tries.{IsMore, Rose, NoneFell, Grew, with_task, place, PopsOwn, StealsFirst, IsBare, TakesFirst, Idle}
+use Rattle.bp_pool.specs.Rounds.{Idle}
+use Rattle.bp_pool.specs.Tries.{IsMore, Rose, NoneFell, Grew, with_task, place, PopsOwn, StealsFirst, IsBare, TakesFirst}
 use Rattle.std.proofs.Common.{true≢false}
 use Rattle.bp_pool.specs.declared.tries.Stolen.TheVariants as stolen
 use Rattle.bp_pool.specs.declared.tries.Take.TheVariants as took

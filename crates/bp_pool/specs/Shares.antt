@@ -63,7 +63,7 @@ abbrev pub all_taken : (Task → ℕ) → List Rights → ℕ
 all_taken h views = sum_by (λ (v : Rights). sum_by h (taken_of v)) views
 
 -- The rights are as many as was told. What the deque was given and what was pushed is what was taken and what the deque holds
-pub record IsKept (items : List Task) (views : List Rights) : Type 0 where
+pub record KeepsTasks (items : List Task) (views : List Rights) : Type 0 where
   pub facts : Facts
   pub total : all_rights views ≡ facts.total
   pub known : (i : ℕ) (v : Rights) → get_elem? views i ≡ some v → 0 < length v.deeds → v.facts ≡ facts

@@ -1,5 +1,5 @@
 -- What tries say of their counts, tasks and deques.
-use Rattle.std.specs.Prelude.{◌≡◌, ℕ, ◌+◌, ◌-◌, ◌^◌, ◌<◌, ◌≤◌, ◌⊎◌, List, [], ◌∷◌, ◌++◌, Option, None, Some, length, slice_index, slice_index_or, slice_set, cond, leb, Bool, false}
+use Rattle.std.specs.Prelude.{◌≡◌, ℕ, ◌+◌, ◌-◌, ◌^◌, ◌<◌, ◌≤◌, ◌⊎◌, List, [], ◌∷◌, ◌++◌, Option, None, Some, length, slice_index, slice_index_or, slice_set, cond, leb}
 use Rattle.bp_base.specs.declared.record.Task.{Task}
 use Rattle.bp_base.specs.Bags.{AreSame}
 use Rattle.bp_pool.specs.declared.tries.Stolen.{Stolen}
@@ -87,8 +87,3 @@ TakesFirst (Some ds) number hands (took.Task t) new =
     PopsOwn (Some ds) (number - 1) (Some t) new ⊎ ((k : ℕ) × (1 ≤ k) × (k < hands) × IsBare ds (number - 1) × ((j : ℕ) → 1 ≤ j → j < k → IsBare ds (place number hands j)) × StealsFirst (Some ds) (place number hands k) (stolen.Task t) new)
 TakesFirst (Some ds) number hands took.Empty new = (new ≡ Some ds) × ((i : ℕ) → i < hands → IsBare ds i)
 TakesFirst (Some ds) number hands took.Contended new = ⊥
-
--- nothing was found so far
-abbrev pub Idle : Option (List (List Task)) → ℕ → ℕ → ℕ → Bool → Option (List (List Task)) → Type 0
-Idle None number hands k lost new = new ≡ None
-Idle (Some ds) number hands k lost new = (new ≡ Some ds) × IsBare ds (number - 1) × ((j : ℕ) → 1 ≤ j → j < k → IsBare ds (place number hands j)) × (lost ≡ false)

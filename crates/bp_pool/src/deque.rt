@@ -37,9 +37,9 @@ pub struct Rights {
 pub struct Kept;
 
 impl Protocol<Task, Rights> for Kept {
-    ghost use Rattle.bp_pool.specs.Shares.{IsKept, fresh, untold, none};
+    ghost use Rattle.bp_pool.specs.Shares.{KeepsTasks, fresh, untold, none};
 
-    ghost holds = { IsKept };
+    ghost holds = { KeepsTasks };
 
     ghost first = { fresh untold };
 

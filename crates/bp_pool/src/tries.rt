@@ -7,6 +7,7 @@ ghost use Rattle.bp_pool.specs.Tries.{Rose, NoneFell, Grew, Stays, PopsOwn, Stea
 use crate::hand::Hand;
 use bp_base::Task;
 
+/// A hand's tries at the deques of a pool, its own among them: a pop of its own, and a steal from another. Counts tell which tries gave none.
 pub trait Tries {
     ghost use Rattle.std.specs.Prelude.{ℕ, List, Option};
     ghost use Rattle.bp_base.specs.declared.record.Task.{Task};
@@ -17,7 +18,7 @@ pub trait Tries {
 
     ghost hands: { Self → ℕ };
 
-    /// For each hand, how often its deque was seen empty, and how often a steal was lost.
+    /// For each hand, how often its deque was seen empty, and how often a steal from it was lost.
     ghost misses: { Self → List ℕ };
 
     ghost lost: { Self → List ℕ };
@@ -28,16 +29,20 @@ pub trait Tries {
     /// What each deque holds, where it is told.
     ghost deques: { Self → Option (List (List Task)) };
 
+    /// What a try leaves as it was.
     ghost rest: { Self → RestView };
 
+    /// Its number, from 1 on.
     fn number(&self) -> u64
         ensures number { result ≡ number self.now }
         ensures in_range { (1 ≤ result) × (result ≤ hands self.now) };
 
+    /// How many hands there are.
     fn hands(&self) -> u64
         ensures hands { result ≡ hands self.now }
         ensures few { result ≤ most_hands };
 
+    /// Takes the last task of the own deque. Where it is None the count of its misses rose.
     fn pop(&mut self) -> Option<Task>
         ensures same { Stays (number self.old) (hands self.old) (rest self.old) (number self.new) (hands self.new) (rest self.new) }
         ensures counts { NoneFell (misses self.old) (misses self.new) × NoneFell (lost self.old) (lost self.new) }
@@ -45,6 +50,7 @@ pub trait Tries {
         ensures taken { Grew (taken self.old) result (taken self.new) }
         ensures deques { PopsOwn (deques self.old) (number self.old - 1) result (deques self.new) };
 
+    /// Takes the first task of the deque of another hand. Where it gives none a count of that hand rose.
     fn steal(&mut self, from: u64) -> Stolen
         requires { (1 ≤ from) × (from ≤ hands self.old) × (from ≢ number self.old) }
         ensures same { Stays (number self.old) (hands self.old) (rest self.old) (number self.new) (hands self.new) (rest self.new) }
@@ -58,7 +64,9 @@ pub trait Tries {
 #[derive(Drop)]
 pub enum Stolen {
     Task(Task),
+    /// The deque was seen empty.
     Empty,
+    /// Another hand was quicker, so the deque may hold more.
     Lost,
 }
 
@@ -66,7 +74,9 @@ pub enum Stolen {
 #[derive(Drop)]
 pub enum Take {
     Task(Task),
+    /// Each deque was seen empty, one after another.
     Empty,
+    /// The own deque was seen empty, and of the others some steal was lost.
     Contended,
 }
 

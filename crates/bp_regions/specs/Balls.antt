@@ -5,10 +5,9 @@ use Rattle.std.specs.List.Sorted.{IsStrictlyIncreasing}
 use Rattle.bp_base.specs.declared.point.Axis.{Axis}
 use Rattle.bp_base.specs.declared.point.Axis.TheVariants.{X, Y}
 use Rattle.bp_base.specs.declared.point.Point.{Point}
-use Rattle.bp_base.specs.Point.{point_at, origin}
+use Rattle.bp_base.specs.Point.{point_at, origin, IsSmallPoint}
 use Rattle.bp_base.specs.Tree.{TreeValue, edges, leaf_count}
 use Rattle.bp_metric.specs.Distance.{leaf_below, radius, most_distance}
-use Rattle.bp_pairs.specs.Points.{IsSmallPoint}
 use Rattle.bp_regions.specs.declared.ball.Ball.{Ball}
 use Rattle.bp_regions.specs.Cells.{IsInBall}
 

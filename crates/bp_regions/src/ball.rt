@@ -3,7 +3,7 @@ ghost use Rattle.std.specs.Prelude.{◌≡◌, ◌+◌, ◌≤◌, ◌↔◌, �
 ghost use Rattle.bp_base.specs.Limits.{most_number};
 ghost use Rattle.bp_base.specs.Tree.{IsEdge, IsLeaf, leaf_count, node_count};
 ghost use Rattle.bp_metric.specs.Distance.{most_distance};
-ghost use Rattle.bp_pairs.specs.Points.{IsSmallPoint};
+ghost use Rattle.bp_base.specs.Point.{IsSmallPoint};
 ghost use Rattle.bp_regions.specs.Cells.{IsInBall};
 ghost use Rattle.bp_regions.specs.Balls.{IsSmallBall, ball_of, balls_of, row_of, HoldsCell};
 

@@ -11,12 +11,11 @@ use Rattle.bp_base.specs.declared.point.Sheet.{Sheet}
 use Rattle.bp_base.specs.declared.point.Sheet.TheVariants.{Square, Strip}
 use Rattle.bp_base.specs.Limits.{most_number}
 use Rattle.bp_base.specs.Tree.{TreeValue, IsTree, IsLeaf, leaf_count}
-use Rattle.bp_base.specs.Point.{origin, point_at, gap}
+use Rattle.bp_base.specs.Point.{origin, point_at, gap, IsSmallPoint}
 use Rattle.bp_metric.specs.Choices.{Holds, is_pair_of, are_late_twins, allowed_later, allowed}
 use Rattle.bp_metric.specs.Distance.{leaf_dist}
 use Rattle.bp_metric.specs.Metric.{IsSheet}
 use Rattle.bp_metric.specs.Valid.{Valid}
-use Rattle.bp_pairs.specs.Points.{IsSmallPoint}
 use Rattle.bp_symmetry.specs.Moves.{turned}
 use Rattle.bp_symmetry.specs.Twins.{IsAfter, pair_of}
 use Rattle.bp_symmetry.specs.Settled.{HasAllowed, EachHasAllowed, AreMoved, IsSettling}

@@ -7,7 +7,7 @@ use Rattle.bp_base.specs.Limits.{most_number}
 use Rattle.bp_base.specs.Tree.{TreeValue}
 use Rattle.bp_metric.specs.Metric.{IsSheet}
 use Rattle.bp_metric.specs.Valid.{Valid}
-use Rattle.bp_pairs.specs.Points.{IsSmallPoint}
+use Rattle.bp_base.specs.Point.{IsSmallPoint}
 use Rattle.bp_symmetry.specs.Moves.{laid, faced_x, turned}
 use Rattle.bp_symmetry.proofs.Turns.{valid_laid, valid_faced_x, valid_turned}
 use Rattle.bp_symmetry.proofs.SettlingLaw.{x_all, y_all, small_all}

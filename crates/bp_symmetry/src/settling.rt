@@ -2,7 +2,7 @@
 ghost use Rattle.std.specs.Prelude.{◌≤◌, All};
 ghost use Rattle.bp_base.specs.Limits.{most_number};
 ghost use Rattle.bp_metric.specs.Valid.{Valid};
-ghost use Rattle.bp_pairs.specs.Points.{IsSmallPoint};
+ghost use Rattle.bp_base.specs.Point.{IsSmallPoint};
 ghost use Rattle.bp_symmetry.specs.Settled.{AreMoved, EachHasAllowed};
 
 use crate::turn::turn;

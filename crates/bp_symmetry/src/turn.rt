@@ -4,7 +4,7 @@ ghost use Rattle.bp_base.specs.Limits.{most_number};
 ghost use Rattle.bp_base.specs.Tree.{leaf_count};
 ghost use Rattle.bp_metric.specs.Metric.{IsMetric};
 ghost use Rattle.bp_metric.specs.Valid.{Valid};
-ghost use Rattle.bp_pairs.specs.Points.{IsSmallPoint};
+ghost use Rattle.bp_base.specs.Point.{IsSmallPoint};
 ghost use Rattle.bp_symmetry.specs.Moves.{are_near_on_x, faced_x, faced_y, is_third_below, laid, raised, turned};
 
 use crate::moves::{exchange, mirror_x, mirror_y};

@@ -5,7 +5,7 @@ ghost use Rattle.bp_base.specs.Path.{IsPairOf};
 ghost use Rattle.bp_base.specs.Tree.{leaf_count};
 ghost use Rattle.bp_metric.specs.Choices.{are_late_twins};
 ghost use Rattle.bp_metric.specs.Valid.{Valid};
-ghost use Rattle.bp_pairs.specs.Points.{IsSmallPoint};
+ghost use Rattle.bp_base.specs.Point.{IsSmallPoint};
 ghost use Rattle.bp_symmetry.specs.Twins.{IsAfter, IsHandedOut, PutsInOrder};
 
 use bp_base::{Pair, Point};

@@ -9,7 +9,7 @@ use Rattle.bp_base.specs.declared.path.Step.{Step}
 use Rattle.bp_base.specs.declared.chain.Claim.{Claim}
 use Rattle.bp_base.specs.declared.chain.Claim.TheVariants.{Walk, Cycle}
 use Rattle.bp_metric.specs.Chains.{ArePlaced, HasCycle, IsCycle}
-use Rattle.bp_metric.specs.Coordinates.{IsCycleShown}
+use Rattle.bp_metric.specs.Coordinates.{IsCycleShown, IsLoop}
 use Rattle.bp_metric.proofs.Chains.{places_left, take_step}
 
 -- one step more in common
@@ -30,8 +30,8 @@ placed_more path more axis (x ∷ y ∷ xs) placed =
     (places_left path more axis x y placed.0, placed_more path more axis (y ∷ xs) placed.1)
 
 -- a cycle of a path's beginning is one of the path
-pub cycle_more : (n : ℕ) (path : List Step) (k : ℕ) → HasCycle n (take k path) → HasCycle n path
-cycle_more n path k (axis, (xs, cycle)) = subst (HasCycle n) (take-append-drop k path) (axis, (xs, longer))
+longer_cycle : (n : ℕ) (path : List Step) (k : ℕ) (axis : Axis) (xs : List ℕ) → IsCycle n (take k path) axis xs → IsCycle n path axis xs
+longer_cycle n path k axis xs cycle = subst (λ (p : List Step). IsCycle n p axis xs) (take-append-drop k path) longer
   where
     longer : IsCycle n (take k path ++ drop k path) axis xs
     longer = record {
@@ -44,6 +44,20 @@ cycle_more n path k (axis, (xs, cycle)) = subst (HasCycle n) (take-append-drop k
       two = cycle.two;
       closed = places_left (take k path) (drop k path) axis _ _ cycle.closed;
     }
+
+pub cycle_more : (n : ℕ) (path : List Step) (k : ℕ) → HasCycle n (take k path) → HasCycle n path
+cycle_more n path k (axis, (xs, cycle)) = (axis, (xs, longer_cycle n path k axis xs cycle))
+
+longer_loop : (n : ℕ) (path : List Step) (k : ℕ) (axis : Axis) (xs : List ℕ) → IsLoop n (take k path) axis xs → IsLoop n path axis xs
+longer_loop n path k axis xs is = record { cycle = longer_cycle n path k axis xs is.cycle; first = is.first }
+
+-- what is shown for a beginning is a loop of the path
+pub shown_loop : (n : ℕ) (path : List Step) (axis : Axis) (xs : List ℕ) (claim : Claim) → (k : ℕ) × IsCycleShown n (take k path) claim → claim ≡ Cycle axis xs → IsLoop n path axis xs
+shown_loop n path axis xs claim (k, shown) is = go axis (subst (IsCycleShown n (take k path)) is shown)
+  where
+    go : (axis : Axis) → IsCycleShown n (take k path) (Cycle axis xs) → IsLoop n path axis xs
+    go X shown = longer_loop n path k X xs shown
+    go Y shown = longer_loop n path k Y xs shown.0
 
 -- a cycle that is shown is one
 pub shown_cycle : (n : ℕ) (path : List Step) (claim : Claim) → IsCycleShown n path claim → HasCycle n path

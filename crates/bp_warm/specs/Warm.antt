@@ -1,12 +1,12 @@
 -- What a warm search state is seen as, and what each keeps.
-use Rattle.std.specs.Prelude.{◌≡◌, ℕ, ◌+◌, ◌-◌, ◌*◌, ◌/◌, ◌≤◌, List, length, take, slice_get, Some}
+use Rattle.std.specs.Prelude.{◌≡◌, ℕ, ◌+◌, ◌-◌, ◌*◌, ◌/◌, ◌<◌, ◌≤◌, List, length, take, slice_get, Some}
 use Rattle.bp_base.specs.declared.point.Axis.{Axis}
 use Rattle.bp_base.specs.declared.point.Axis.TheVariants.{X, Y}
 use Rattle.bp_base.specs.declared.point.Sheet.{Sheet}
 use Rattle.bp_base.specs.declared.path.Step.{Step}
 use Rattle.bp_base.specs.declared.record.Least.{Least}
 use Rattle.bp_base.specs.Tree.{TreeValue, IsTree, leaf_count}
-use Rattle.bp_metric.specs.Chains.{HasPairsOf}
+use Rattle.bp_metric.specs.Chains.{HasPairsOf, HasCycle}
 use Rattle.bp_metric.specs.Coordinates.{IsLeast}
 use Rattle.bp_metric.specs.Metric.{MetricValue, IsSheet}
 use Rattle.bp_warm.specs.declared.halves.Half.{Half}
@@ -21,6 +21,13 @@ pub record WarmValue : Type 0 where
 -- how many pairs of leaves there are
 abbrev pub pair_count : TreeValue → ℕ
 pair_count T = leaf_count T * (leaf_count T - 1) / 2
+
+-- a warm path that was to become the asked one stands at its longest beginning without a cycle
+pub record StoppedAt (T : TreeValue) (asked path : List Step) : Type 0 where
+  pub k : ℕ
+  pub shorter : k < length asked
+  pub is : path ≡ take k asked
+  pub closes : HasCycle (leaf_count T) (take (k + 1) asked)
 
 -- one axis: its row of coordinates, and which leaves the path places after and before each
 pub record IsHalf (T : TreeValue) (path : List Step) (axis : Axis) (row : List ℕ) (after before : LinksValue) : Type 0 where

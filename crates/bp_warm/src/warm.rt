@@ -1,4 +1,5 @@
-ghost use Rattle.std.specs.Prelude.{◌≡◌, ◌<◌, ◌≤◌, ◌++◌, ◌∷◌, [], ℕ, IfOk, MatchOption, length, take};
+ghost use Rattle.std.specs.Prelude.{◌≡◌, ◌<◌, ◌≤◌, ◌++◌, ◌∷◌, [], ℕ, IfOk, MatchOption, Some, length, slice_get, take};
+ghost use Rattle.bp_base.specs.declared.path.Step.{Step as AnyStep};
 ghost use Rattle.bp_base.specs.Path.{IsPairOf};
 ghost use Rattle.bp_base.specs.Tree.{leaf_count};
 ghost use Rattle.bp_metric.specs.Coordinates.{IsCycleShown, IsLeast};
@@ -164,12 +165,17 @@ impl Warm {
         self.steps.len() as u64
     }
 
-    // How many steps at their beginnings this path and the other have in common.
+    /// How many steps at their beginnings this path and the other have in common.
     pub fn common(&self, path: &Path) -> u64
         ensures within { (result ≤ length self.now.path) × (result ≤ length path.now) }
         ensures same { take result self.now.path ≡ take result path.now }
+        ensures most { (s : AnyStep) → slice_get self.now.path result ≡ Some s → slice_get path.now result ≡ Some s → ⊥ }
     {
         in_common(&self.steps, path)
+    }
+
+    pub(crate) fn allocator(&self) -> Global {
+        self.alloc
     }
 
     /// The least coordinates of the path, in grid units, with the side that it forces and the chain that is shown for it.

@@ -1,5 +1,6 @@
 use Rattle.std.proofs.Common.{ℕ, ◌+◌, ◌-◌, ◌⊎◌, true≢false, Some, None, inl, inr, ⊎_elim, sym, ◌∙◌, subst, arith}
-use Rattle.bp_pool.specs.Tries.{Rose, NoneFell, Idle}
+use Rattle.bp_pool.specs.Rounds.{Idle}
+use Rattle.bp_pool.specs.Tries.{Rose, NoneFell}
 use Rattle.bp_pool.proofs.Tried.{rose_after, rose_before, fell_on, grew_on, each, one_more, idle_on, idle_lost, takes_none}
 use Rattle.bp_pool.proofs.tries.take_from.Goals as goal
 use Rattle.bp_pool.proofs.tries.take_from.Goals.{in-Empty, in-Lost}

@@ -1,5 +1,6 @@
 use Rattle.std.proofs.Common.{◌≡◌, ℕ, ◌-◌, ◌<◌, ◌≤◌, ◌⊎◌, true, false, None}
-use Rattle.bp_pool.specs.Tries.{Rose, NoneFell, Grew, Stays, SomeLost, place, Idle}
+use Rattle.bp_pool.specs.Rounds.{Idle}
+use Rattle.bp_pool.specs.Tries.{Rose, NoneFell, Grew, Stays, SomeLost, place}
 use Rattle.bp_pool.proofs.tries.take_from.Given as goal
 
 abbrev pub invariant-loop-k : goal.invariant-loop-k

@@ -1,5 +1,5 @@
 use Rattle.std.proofs.Common.{All}
-use Rattle.bp_pairs.specs.Points.{IsSmallPoint}
+use Rattle.bp_base.specs.Point.{IsSmallPoint}
 use Rattle.bp_symmetry.proofs.HandOut.{IsHanding}
 use Rattle.bp_symmetry.proofs.twins.hand_out.Given as goal
 

@@ -1,0 +1,4 @@
+pub mod Told
+pub mod Hinted
+pub mod Law
+pub mod Trees

@@ -1,0 +1,4 @@
+mod Names
+mod Leaves
+mod Rounds
+mod Worked
