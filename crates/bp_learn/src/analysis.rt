@@ -93,10 +93,12 @@ impl Analysis {
 
     fn clear(&mut self, entries: usize) -> Result<(), Stop> {
         for _ in self.marks.len()..entries {
-            stop(self.marks.push(Mark {
-                marked: false,
-                need: 0,
-            }))?;
+            stop(
+                self.marks.push(Mark {
+                    marked: false,
+                    need: 0,
+                }),
+            )?;
         }
         self.queue.clear();
         self.here = 0;
@@ -525,12 +527,7 @@ impl Analysis {
     }
 
     // The lemma of one fact that tells what an entry of the root tells, where it is none yet.
-    fn root_lemma(
-        &mut self,
-        search: &mut Search,
-        number: u32,
-        entry: Entry,
-    ) -> Result<u32, Stop> {
+    fn root_lemma(&mut self, search: &mut Search, number: u32, entry: Entry) -> Result<u32, Stop> {
         match entry.why {
             Why::Limit | Why::Bounds => return Ok(NO_LEMMA),
             Why::Lemma(lemma) if search.lemmas.facts_of(lemma).len() == 1 => return Ok(lemma),

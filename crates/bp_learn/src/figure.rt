@@ -46,7 +46,8 @@ impl Figure {
         requires { IsLeaf metric.now.tree i }
     {
         for j in 1..metric.leaves() + 1 {
-            let spot = (i as usize - 1) % MOST_LEAVES * MOST_LEAVES + (j as usize - 1) % MOST_LEAVES;
+            let spot = (i as usize - 1) % MOST_LEAVES * MOST_LEAVES
+                + (j as usize - 1) % MOST_LEAVES;
             self.distances[spot] = (metric.dist(i, j) % 4_294_967_296) as u32;
             self.twins[spot] = metric.twins(i, j);
         }

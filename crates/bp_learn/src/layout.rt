@@ -13,7 +13,11 @@ pub struct Layout {
 }
 
 fn gap(a: u32, b: u32) -> u32 {
-    if a < b { b.saturating_sub(a) } else { a.saturating_sub(b) }
+    if a < b {
+        b.saturating_sub(a)
+    } else {
+        a.saturating_sub(b)
+    }
 }
 
 impl Layout {
@@ -168,7 +172,11 @@ fn places(
         return Err(Stop::Full);
     }
     for other in placed {
-        let at = if on_x { layout.x(*other) } else { layout.y(*other) };
+        let at = if on_x {
+            layout.x(*other)
+        } else {
+            layout.y(*other)
+        };
         if list
             .push(at.saturating_add(figure.distance(*other, leaf)))
             .is_err()

@@ -73,12 +73,7 @@ fn swaps_of(alloc: Global, swaps: &Swaps) -> Result<Sequence<Sequence<Pair>>, No
 
 /// Searches the least side, from a bound that holds, in grid units, till bound and side meet or so many lemmas were learned. Nothing is
 /// promised of the lemmas.
-pub fn learn(
-    alloc: Global,
-    metric: &Metric,
-    floor: u64,
-    budget: u64,
-) -> Result<Learned, NoMemory>
+pub fn learn(alloc: Global, metric: &Metric, floor: u64, budget: u64) -> Result<Learned, NoMemory>
     ensures valid { IfOk result (λ r. Valid metric.now.tree metric.now.sheet 1 r.placement.side r.placement.points) }
     ensures ended { IfOk result (λ r. HasEnded r.bound r.placement.side r.conflicts budget) }
 {

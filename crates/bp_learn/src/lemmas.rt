@@ -34,7 +34,8 @@ pub struct Lemmas {
 }
 
 fn full<T>(pushed: Result<(), T>) -> Result<(), Stop>
-    where T: Drop
+where
+    T: Drop,
 {
     match pushed {
         Ok(()) => Ok(()),

@@ -16,6 +16,8 @@ mod reasons;
 mod run;
 mod search;
 mod swaps;
+#[cfg(test)]
+mod tests;
 mod watches;
 
 pub use learned::{Learned, learn};

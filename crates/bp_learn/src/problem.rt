@@ -172,7 +172,10 @@ impl Problem {
             weight,
             group,
         };
-        let (u, v) = (first as usize % MOST_COORDINATES, second as usize % MOST_COORDINATES);
+        let (u, v) = (
+            first as usize % MOST_COORDINATES,
+            second as usize % MOST_COORDINATES,
+        );
         let at = self.first_count[u];
         self.firsts[place(first, at)] = number;
         self.first_count[u] = at.wrapping_add(1);

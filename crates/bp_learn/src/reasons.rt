@@ -220,12 +220,7 @@ fn comes_before(first: Option<u32>, second: Option<u32>) -> bool {
 
 // The facts of a lemma but this one. A bound of the lemma may differ from the one that was denied: it is taken by its own coordinate and
 // sense.
-fn add_lemma(
-    lemmas: &Lemmas,
-    lemma: u32,
-    own: Fact,
-    list: &mut Vec<Fact>,
-) -> Result<(), Stop> {
+fn add_lemma(lemmas: &Lemmas, lemma: u32, own: Fact, list: &mut Vec<Fact>) -> Result<(), Stop> {
     for fact in lemmas.facts_of(lemma) {
         if *fact != own {
             add(list, *fact)?;

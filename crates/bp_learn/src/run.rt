@@ -151,7 +151,11 @@ impl Try {
     fn open(alloc: Global, run: &Run, limit: u32) -> Result<Try, Stop> {
         let problem = problem_of(&run.figure, run.corner, &run.swaps, limit);
         let arranged = run.layout.arranged(&run.figure, run.corner, &run.swaps);
-        let mut search = match Search::open(alloc, problem, coordinates_of(&run.figure, &arranged)) {
+        let mut search = match Search::open(
+            alloc,
+            problem,
+            coordinates_of(&run.figure, &arranged),
+        ) {
             Ok(search) => search,
             Err(NoMemory) => return Err(Stop::Full),
         };

@@ -103,11 +103,7 @@ impl Search {
     }
 
     /// Keeps a lemma, which is watched where it has two facts or more; gives its number.
-    pub fn keep_lemma(
-        &mut self,
-        analysis: &mut Analysis,
-        levels: u32,
-    ) -> Result<u32, Stop> {
+    pub fn keep_lemma(&mut self, analysis: &mut Analysis, levels: u32) -> Result<u32, Stop> {
         analysis.sort_needs()?;
         let facts = analysis.lemma();
         let number = self.lemmas.add(

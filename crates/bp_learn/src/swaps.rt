@@ -107,12 +107,7 @@ fn holds_corner(branch: &Branch, corner: (u8, u8)) -> bool {
 }
 
 // The next branch of the same node that looks the same as this one; none of both holds a leaf of the corner.
-fn next_equal(
-    tree: &Tree,
-    branches: &[Branch],
-    first: usize,
-    corner: (u8, u8),
-) -> Option<usize> {
+fn next_equal(tree: &Tree, branches: &[Branch], first: usize, corner: (u8, u8)) -> Option<usize> {
     let parents = tree.parents();
     let one = branches.get(first)?;
     if holds_corner(one, corner) {
