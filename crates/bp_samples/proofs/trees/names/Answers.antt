@@ -1,5 +1,5 @@
 use Rattle.bp_metric.proofs.Sampled.{letters_more}
-use Rattle.bp_walks.proofs.tests.names.Goals as goal
+use Rattle.bp_samples.proofs.trees.names.Goals as goal
 
 pub loop-number-preserved : goal.loop-number-preserved
 loop-number-preserved c =

@@ -1,6 +1,6 @@
 use Rattle.std.proofs.Common.{length, refl}
 use Rattle.bp_metric.proofs.Sampled.{made_tree}
-use Rattle.bp_walks.proofs.tests.tree.Goals as goal
+use Rattle.bp_samples.proofs.trees.tree.Goals as goal
 
 pub of-requires : goal.of-requires
 of-requires c =

@@ -1,0 +1,10 @@
+//! Trees, paths and lists that tests are built on.
+#![tactic(auto)]
+
+mod paths;
+#[cfg(test)]
+mod tests;
+mod trees;
+
+pub use paths::{NoSample, leaves_of, path_of, step};
+pub use trees::tree;
