@@ -14,14 +14,14 @@ use Rattle.bp_metric.specs.Coordinates.{IsLeast, IsLow}
 use Rattle.bp_metric.specs.Next.{IsNear, IsNext}
 use Rattle.bp_metric.specs.Valid.{IsPair}
 use Rattle.bp_metric.proofs.Lows.{one_low}
-use Rattle.bp_branch.specs.Nearest.{AreNear, IsBefore, IsBest, of_leaf}
+use Rattle.bp_branch.specs.Nearest.{AreNear, IsPast, IsBest, of_leaf}
 
 module _ (T : TreeValue) (xs ys : List ℕ) where
   -- no pair stands between (i, 0) and (i, i + 1)
   pub row_begins : (i : ℕ) (best : Option Pair) → IsBest T xs ys i 0 best → IsBest T xs ys i (i + 1) best
   row_begins i None best = λ k l pair before near. best k l pair (earlier pair before) near
     where
-      earlier : {k l : ℕ} → IsPair T k l → IsBefore i (i + 1) k l → IsBefore i 0 k l
+      earlier : {k l : ℕ} → IsPair T k l → IsPast i (i + 1) k l → IsPast i 0 k l
       earlier pair (inl less) = inl less
       earlier pair (inr (same, less)) = absurd (omega (arith, pair.1, same, less))
   row_begins i (Some p) best = record {
@@ -32,15 +32,15 @@ module _ (T : TreeValue) (xs ys : List ℕ) where
     first = best.first;
   }
     where
-      later : IsBefore i 0 p.i p.j → IsBefore i (i + 1) p.i p.j
+      later : IsPast i 0 p.i p.j → IsPast i (i + 1) p.i p.j
       later (inl less) = inl less
       later (inr (same, less)) = absurd (omega (arith, less))
 
-      earlier : {k l : ℕ} → IsPair T k l → IsBefore i (i + 1) k l → IsBefore i 0 k l
+      earlier : {k l : ℕ} → IsPair T k l → IsPast i (i + 1) k l → IsPast i 0 k l
       earlier pair (inl less) = inl less
       earlier pair (inr (same, less)) = absurd (omega (arith, pair.1, same, less))
 
-  in_row : (i j k l : ℕ) → leaf_count T < j → IsPair T k l → IsBefore (i + 1) 0 k l → IsBefore i j k l
+  in_row : (i j k l : ℕ) → leaf_count T < j → IsPair T k l → IsPast (i + 1) 0 k l → IsPast i j k l
   in_row i j k l past pair (inl less) = elim (cases_lt k i) [
     | inl below ↦ inl below
     | inr above ↦ inr (omega (arith, less, above), omega (arith, past, pair.2))
@@ -58,7 +58,7 @@ module _ (T : TreeValue) (xs ys : List ℕ) where
     first = best.first;
   }
     where
-      later : IsBefore i j p.i p.j → IsBefore (i + 1) 0 p.i p.j
+      later : IsPast i j p.i p.j → IsPast (i + 1) 0 p.i p.j
       later (inl less) = inl (omega (arith, less))
       later (inr (same, less)) = inl (omega (arith, same))
 
@@ -96,7 +96,7 @@ module _ (T : TreeValue) (G : Sheet) (path : List Step) (found : Least) (least :
     near = near;
   }
 
-  within : (p : Pair) → IsPairOf (leaf_count T) p → IsBefore (leaf_count T) 0 p.i p.j
+  within : (p : Pair) → IsPairOf (leaf_count T) p → IsPast (leaf_count T) 0 p.i p.j
   within p pair = inl (omega (arith, pair.1, pair.2))
 
   pub is_next : (best : Option Pair) → IsBest T found.xs found.ys (leaf_count T) 0 best → IsNext T path best

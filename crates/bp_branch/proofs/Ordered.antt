@@ -9,7 +9,7 @@ use Rattle.bp_base.specs.Path.{IsPairOf}
 use Rattle.bp_base.specs.Tree.{TreeValue, leaf_count}
 use Rattle.bp_metric.specs.Distance.{leaf_dist}
 use Rattle.bp_metric.specs.Valid.{IsPair}
-use Rattle.bp_branch.specs.Nearest.{AreNear, IsBefore, IsBest}
+use Rattle.bp_branch.specs.Nearest.{AreNear, IsPast, IsBest}
 use Rattle.bp_branch.specs.Orders.{AreOrdered, ComesFirst, IsPairOrder}
 
 -- An element at a place of a list.
@@ -75,7 +75,7 @@ module _ (T : TreeValue) where
   apart p = leaf_dist T p.i p.j
 
   abbrev Is : ℕ → ℕ → Pair → Type 0
-  Is i j p = IsPairOf (leaf_count T) p × IsBefore i j p.i p.j
+  Is i j p = IsPairOf (leaf_count T) p × IsPast i j p.i p.j
 
   pub none_ordered : (pairs : List Pair) → pairs ≡ [] → AreOrdered T 1 0 pairs
   none_ordered pairs none = subst (AreOrdered T 1 0) (sym none) (record {
@@ -84,12 +84,12 @@ module _ (T : TreeValue) where
     sorted = λ i j d less within. absurd (omega (arith, within));
   })
     where
-      no_row : (p : Pair) → IsPairOf (leaf_count T) p → IsBefore 1 0 p.i p.j → ⊥
+      no_row : (p : Pair) → IsPairOf (leaf_count T) p → IsPast 1 0 p.i p.j → ⊥
       no_row p pair (inl less) = omega (arith, pair.0, less)
       no_row p pair (inr (same, less)) = omega (arith, less)
 
   -- the same pairs stand before another place
-  moved : (i j k l : ℕ) (pairs : List Pair) → ((p : Pair) → IsPairOf (leaf_count T) p → IsBefore i j p.i p.j → IsBefore k l p.i p.j) → ((p : Pair) → IsPairOf (leaf_count T) p → IsBefore k l p.i p.j → IsBefore i j p.i p.j) → AreOrdered T i j pairs → AreOrdered T k l pairs
+  moved : (i j k l : ℕ) (pairs : List Pair) → ((p : Pair) → IsPairOf (leaf_count T) p → IsPast i j p.i p.j → IsPast k l p.i p.j) → ((p : Pair) → IsPairOf (leaf_count T) p → IsPast k l p.i p.j → IsPast i j p.i p.j) → AreOrdered T i j pairs → AreOrdered T k l pairs
   moved i j k l pairs to from ordered = record {
     each = λ m d less. let is = ordered.each m d less in (is.0, to (get_or pairs m d) is.0 is.1);
     all = λ p pair before. ordered.all p pair (from p pair before);
@@ -100,11 +100,11 @@ module _ (T : TreeValue) where
   pub order_row_begins : (i : ℕ) (pairs : List Pair) → AreOrdered T i 0 pairs → AreOrdered T i (i + 1) pairs
   order_row_begins i pairs ordered = moved i 0 i (i + 1) pairs to from ordered
     where
-      to : (p : Pair) → IsPairOf (leaf_count T) p → IsBefore i 0 p.i p.j → IsBefore i (i + 1) p.i p.j
+      to : (p : Pair) → IsPairOf (leaf_count T) p → IsPast i 0 p.i p.j → IsPast i (i + 1) p.i p.j
       to p pair (inl less) = inl less
       to p pair (inr (same, less)) = absurd (omega (arith, less))
 
-      from : (p : Pair) → IsPairOf (leaf_count T) p → IsBefore i (i + 1) p.i p.j → IsBefore i 0 p.i p.j
+      from : (p : Pair) → IsPairOf (leaf_count T) p → IsPast i (i + 1) p.i p.j → IsPast i 0 p.i p.j
       from p pair (inl less) = inl less
       from p pair (inr (same, less)) = absurd (omega (arith, pair.1, same, less))
 
@@ -112,11 +112,11 @@ module _ (T : TreeValue) where
   pub order_row_ends : (i j : ℕ) (pairs : List Pair) → leaf_count T < j → AreOrdered T i j pairs → AreOrdered T (i + 1) 0 pairs
   order_row_ends i j pairs past ordered = moved i j (i + 1) 0 pairs to from ordered
     where
-      to : (p : Pair) → IsPairOf (leaf_count T) p → IsBefore i j p.i p.j → IsBefore (i + 1) 0 p.i p.j
+      to : (p : Pair) → IsPairOf (leaf_count T) p → IsPast i j p.i p.j → IsPast (i + 1) 0 p.i p.j
       to p pair (inl less) = inl (omega (arith, less))
       to p pair (inr (same, less)) = inl (omega (arith, same))
 
-      from : (p : Pair) → IsPairOf (leaf_count T) p → IsBefore (i + 1) 0 p.i p.j → IsBefore i j p.i p.j
+      from : (p : Pair) → IsPairOf (leaf_count T) p → IsPast (i + 1) 0 p.i p.j → IsPast i j p.i p.j
       from p pair (inl less) = elim (cases_lt p.i i) [
         | inl below ↦ inl below
         | inr above ↦ inr (omega (arith, less, above), omega (arith, past, pair.2))
@@ -131,14 +131,14 @@ module _ (T : TreeValue) where
     sorted = sorted_insert pairs k p within (ComesFirst T) ordered.sorted (λ m d less. first m d less) (λ m d from less. inl (lesser m d from less));
   })
     where
-      later : (q : Pair) → IsBefore p.i p.j q.i q.j → IsBefore p.i (p.j + 1) q.i q.j
+      later : (q : Pair) → IsPast p.i p.j q.i q.j → IsPast p.i (p.j + 1) q.i q.j
       later q (inl less) = inl less
       later q (inr (same, less)) = inr (same, omega (arith, less))
 
       same_pair : (q : Pair) → q.i ≡ p.i → q.j ≡ p.j → q ≡ p
       same_pair q i_same j_same = λ n. record { i = i_same n; j = j_same n }
 
-      found : (q : Pair) → IsPairOf (leaf_count T) q → IsBefore p.i (p.j + 1) q.i q.j → Contains (insert pairs k p) q
+      found : (q : Pair) → IsPairOf (leaf_count T) q → IsPast p.i (p.j + 1) q.i q.j → Contains (insert pairs k p) q
       found q q_pair (inl less) = contains_insert pairs k p within q (ordered.all q q_pair (inl less))
       found q q_pair (inr (same, less)) = elim (cases_eq q.j p.j) [
         | inl at ↦ subst (Contains (insert pairs k p)) (sym (same_pair q same at)) (contains_there pairs k p within)
@@ -213,7 +213,7 @@ module _ (T : TreeValue) where
         no_more q (inr (inl lesser)) = omega (arith, lesser)
         no_more q (inr (inr (same, earlier))) = omega (arith, same)
 
-        not_earlier : (q : Pair) → apart q ≡ apart p → IsBefore p.i p.j q.i q.j → (p ≡ q) ⊎ ComesFirst T p q → ⊥
+        not_earlier : (q : Pair) → apart q ≡ apart p → IsPast p.i p.j q.i q.j → (p ≡ q) ⊎ ComesFirst T p q → ⊥
         not_earlier q equal (inl less) (inl same) = omega (arith, less, ap (λ (a : Pair). a.i) same)
         not_earlier q equal (inr (i_same, less)) (inl same) = omega (arith, less, ap (λ (a : Pair). a.j) same)
         not_earlier q equal before (inr (inl lesser)) = omega (arith, lesser, equal)

@@ -5,7 +5,7 @@ use Rattle.bp_base.specs.Path.{IsPairOf}
 use Rattle.bp_base.specs.Tree.{TreeValue, leaf_count}
 use Rattle.bp_metric.specs.Distance.{leaf_dist}
 use Rattle.bp_metric.specs.Next.{IsEarlier}
-use Rattle.bp_branch.specs.Nearest.{IsBefore}
+use Rattle.bp_branch.specs.Nearest.{IsPast}
 
 -- p has the greater distance, or the same and the lesser number
 abbrev pub ComesFirst : TreeValue → Pair → Pair → Type 0
@@ -15,8 +15,8 @@ ComesFirst T p r =
 -- the list has the pairs numbered before (i, j) and no others, the one of greatest distance first, and of equal ones that of least
 -- number
 pub record AreOrdered (T : TreeValue) (i j : ℕ) (pairs : List Pair) : Type 0 where
-  pub each : All (λ (p : Pair). IsPairOf (leaf_count T) p × IsBefore i j p.i p.j) pairs
-  pub all : (p : Pair) → IsPairOf (leaf_count T) p → IsBefore i j p.i p.j → Contains pairs p
+  pub each : All (λ (p : Pair). IsPairOf (leaf_count T) p × IsPast i j p.i p.j) pairs
+  pub all : (p : Pair) → IsPairOf (leaf_count T) p → IsPast i j p.i p.j → Contains pairs p
   pub sorted : AllPairs (ComesFirst T) pairs
 
 -- the list has all pairs

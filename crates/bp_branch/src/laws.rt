@@ -1,5 +1,5 @@
 // Laws of branches: what holds of paths whose pairs were each picked by next.
-ghost use Rattle.std.specs.Prelude.{◌≡◌, ◌<◌, ◌≤◌, ◌-◌, ◌*◌, ◌/◌, ℕ, List, None, Contains, length};
+ghost use Rattle.std.specs.Prelude.{◌≡◌, ◌<◌, ◌≤◌, ◌-◌, ◌*◌, ◌/◌, ℕ, List, Option, None, Contains, length};
 ghost use Rattle.bp_base.specs.declared.path.Choice.{Choice};
 ghost use Rattle.bp_base.specs.declared.path.Pair.{Pair};
 ghost use Rattle.bp_base.specs.declared.path.Step.{Step};
@@ -42,3 +42,8 @@ pub fn law_of_solved(metric: &Metric)
 {
     let _leaves = metric.leaves();
 }
+
+/// A path has only one next pair, or none.
+pub fn one_next(metric: &Metric)
+    ensures { (path : List Step) (p r : Option Pair) → IsNext metric.now.tree path p → IsNext metric.now.tree path r → p ≡ r }
+{}

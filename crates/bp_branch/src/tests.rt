@@ -1,63 +1,16 @@
 // Worked paths of stars, judged against bounds.
-ghost use Rattle.std.specs.Prelude.{◌≡◌, ◌≤◌, IsTrue, IfOk};
+ghost use Rattle.std.specs.Prelude.{◌≤◌};
 ghost use Rattle.bp_base.specs.Limits.{most_number};
-ghost use Rattle.bp_metric.specs.Chains.{HasPairsOf};
-ghost use Rattle.bp_metric.specs.Samples.{is_sample, letters};
 
 use crate::{
-    PairOrder, examine, extended, law_of_branches, law_of_children, law_of_solved, low_points,
-    next_pair,
+    PairOrder, examine, law_of_branches, law_of_children, law_of_solved, low_points, next_pair,
+    one_next,
 };
-use bp_base::{Chain, Choice, Claim, Name, Outcome, Pair, Path, Step, Tree};
+use bp_base::{Choice, Claim, Outcome, Step};
 use bp_metric::Metric;
+use bp_samples::{path_of, step, tree};
 use std::alloc::Global;
 use std::test::Fail;
-
-// The names a, b, c, ..
-fn names(alloc: Global, count: usize) -> Result<Vec<Name>, Fail>
-    requires { count ≤ 26 }
-    ensures { IfOk result (λ v. v.items ≡ letters count) }
-{
-    let mut names = Vec::new(alloc);
-    for number in 0..count {
-        match Name::new(&[97 + number as u8]) {
-            Some(name) => names.push(name)?,
-            None => return Err(Fail::from("no name")),
-        }
-    }
-    Ok(names)
-}
-
-fn tree(alloc: Global, parents: &[u64], lengths: &[u64]) -> Result<Tree, Fail>
-    requires { IsTrue (is_sample parents.now lengths.now) }
-{
-    let names = names(alloc, parents.len())?;
-    let parents = Vec::from_slice(alloc, parents)?;
-    let lengths = Vec::from_slice(alloc, lengths)?;
-    Ok(Tree::of(parents, lengths, names))
-}
-
-// The path of these steps, for pairs of n leaves.
-fn path_of(alloc: Global, n: u64, steps: &[(u64, u64, Choice)]) -> Result<Path, Fail>
-    requires { n ≤ 32 }
-    ensures { IfOk result (λ path. HasPairsOf n path) }
-{
-    let mut path = Path::empty(alloc);
-    for (i, j, choice) in steps {
-        if *i < 1 || *i >= *j || n < *j || path.len() >= 496 {
-            return Err(Fail::from("no step"));
-        }
-        path = extended(
-            alloc,
-            &path,
-            Step {
-                pair: Pair { i: *i, j: *j },
-                choice: *choice,
-            },
-        )?;
-    }
-    Ok(path)
-}
 
 // What is shown of an outcome: its kind, and the numbers that it names.
 #[derive(Clone, Copy, Debug, PartialEq, Eq)]
@@ -84,12 +37,7 @@ fn told_of(outcome: &Outcome) -> Seen {
     }
 }
 
-fn judged(
-    alloc: Global,
-    metric: &Metric,
-    steps: &[(u64, u64, Choice)],
-    bound: u64,
-) -> Result<Seen, Fail>
+fn judged(alloc: Global, metric: &Metric, steps: &[Step], bound: u64) -> Result<Seen, Fail>
     requires { bound ≤ most_number }
 {
     let path = path_of(alloc, metric.leaves(), steps)?;
@@ -117,16 +65,16 @@ fn paths_of_a_star(rt: HostRuntime) -> Result<(), Fail> {
     let star = tree(alloc, &[0, 0, 0, 0], &[0, 2, 2, 1])?;
     let metric = Metric::of(alloc, &star)?;
     let (left, right, below) = (Choice::Left, Choice::Right, Choice::Below);
-    let rows: [(&[(u64, u64, Choice)], u64, Seen); 8] = [
+    let rows: [(&[Step], u64, Seen); 8] = [
         (&[], 5, Seen::Split(1, 2)),
         (&[], 0, Seen::Closed(1)),
-        (&[(1, 2, left)], 5, Seen::Split(1, 3)),
-        (&[(1, 2, left)], 4, Seen::Closed(2)),
-        (&[(1, 2, left), (1, 3, below)], 5, Seen::Solved(4)),
-        (&[(1, 2, left), (1, 3, left)], 5, Seen::Split(2, 3)),
-        (&[(1, 2, left), (2, 3, left)], 7, Seen::Closed(3)),
+        (&[step(1, 2, left)], 5, Seen::Split(1, 3)),
+        (&[step(1, 2, left)], 4, Seen::Closed(2)),
+        (&[step(1, 2, left), step(1, 3, below)], 5, Seen::Solved(4)),
+        (&[step(1, 2, left), step(1, 3, left)], 5, Seen::Split(2, 3)),
+        (&[step(1, 2, left), step(2, 3, left)], 7, Seen::Closed(3)),
         (
-            &[(1, 2, left), (2, 3, left), (1, 3, right)],
+            &[step(1, 2, left), step(2, 3, left), step(1, 3, right)],
             9,
             Seen::Cyclic(3),
         ),
@@ -142,11 +90,7 @@ fn paths_of_a_star(rt: HostRuntime) -> Result<(), Fail> {
 }
 
 // The low points of the path of these steps, as pairs of numbers.
-fn points(
-    alloc: Global,
-    metric: &Metric,
-    steps: &[(u64, u64, Choice)],
-) -> Result<Vec<(u64, u64)>, Fail> {
+fn points(alloc: Global, metric: &Metric, steps: &[Step]) -> Result<Vec<(u64, u64)>, Fail> {
     let path = path_of(alloc, metric.leaves(), steps)?;
     let (_, least) = examine(alloc, metric, &path, 0)?;
     let Some(found) = least else {
@@ -170,7 +114,8 @@ fn points_of_a_star(rt: HostRuntime) -> Result<(), Fail> {
     law_of_branches(&metric);
     law_of_children(&metric);
     law_of_solved(&metric);
-    let steps = [(1, 2, Choice::Left), (1, 3, Choice::Below)];
+    one_next(&metric);
+    let steps = [step(1, 2, Choice::Left), step(1, 3, Choice::Below)];
     let found = points(alloc, &metric, &steps)?;
     assert_eq!(rt; found.as_slice(), [(0, 0), (4, 0), (0, 3)].as_slice());
     Ok(())

@@ -1,0 +1,1 @@
+-- What this crate answers is stated by bp_metric's Chains.

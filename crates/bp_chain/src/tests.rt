@@ -1,45 +1,10 @@
 // Lists that are chains or cycles of a path, and lists that aren't.
-ghost use Rattle.std.specs.Prelude.{◌≡◌, IfOk};
-
 use crate::{claim_holds, weight};
-use bp_base::{Axis, Chain, Choice, Claim, Name, Pair, Path, Step, Tree};
+use bp_base::{Axis, Chain, Choice, Claim, Path};
 use bp_metric::Metric;
+use bp_samples::{step, tree};
 use std::alloc::Global;
 use std::test::Fail;
-
-fn named(letter: &[u8]) -> Result<Name, Fail>
-    ensures { IfOk result (λ name. name ≡ letter.now) }
-{
-    match Name::new(letter) {
-        Some(name) => Ok(name),
-        None => Err(Fail::from("no name")),
-    }
-}
-
-// c p a/c q b/c r d/c s e/c t f/, of lengths 2, 2, 2, 1, 1
-fn star(alloc: Global) -> Result<Tree, Fail> {
-    let names = [
-        named(b"c")?,
-        named(b"p")?,
-        named(b"q")?,
-        named(b"r")?,
-        named(b"s")?,
-        named(b"t")?,
-    ];
-    let parents = Vec::from_slice(alloc, &[0; 6])?;
-    let lengths = Vec::from_slice(alloc, &[0, 2, 2, 2, 1, 1])?;
-    let names = Vec::from_slice(alloc, &names)?;
-    Ok(Tree::of(parents, lengths, names))
-}
-
-fn step(i: u64, j: u64, choice: Choice) -> Step
-    ensures { result ≡ record { pair = record { i = i; j = j }; choice = choice } }
-{
-    Step {
-        pair: Pair { i, j },
-        choice,
-    }
-}
 
 fn chain(alloc: Global, leaves: &[u64]) -> Result<Chain, Fail> {
     match Chain::new(alloc, leaves) {
@@ -76,7 +41,8 @@ fn weighed(
 #[test]
 fn lists(rt: HostRuntime) -> Result<(), Fail> {
     let alloc = rt.alloc();
-    let metric = Metric::of(alloc, &star(alloc)?)?;
+    let star = tree(alloc, &[0; 6], &[0, 2, 2, 2, 1, 1])?;
+    let metric = Metric::of(alloc, &star)?;
     let mut path = Path::empty(alloc);
     path.push(step(1, 2, Choice::Left))?;
     path.push(step(2, 3, Choice::Left))?;

@@ -25,7 +25,7 @@ each p n k passes above below =
     let at : get_or (range_with_len 1 (n - 1)) (k - 1) 0 ≡ k = get_or-range_with_len 1 (n - 1) (k - 1) 0 (omega arith) ∙ (omega arith) in
     subst (λ (x : ℕ). p x ≡ true) at all
 
-letter : (k : ℕ) → 97 ≤ k → k ≤ 122 → IsName (k ∷ [])
+pub letter : (k : ℕ) → 97 ≤ k → k ≤ 122 → IsName (k ∷ [])
 letter k low high =
     let spelled : is_name_byte k ≡ true =
     (let a = le-leb 97 k low in let b = le-leb k 122 high in rw (a, b) refl)

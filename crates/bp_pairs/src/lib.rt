@@ -7,7 +7,7 @@ mod numbers;
 mod valid;
 
 pub use choices::{ChoiceSet, allowed, holds};
-pub use laws::numbers_rise;
+pub use laws::{has_steady, numbers_rise, one_steady};
 pub use numbers::{pair_at, pair_number};
 pub use valid::{Flaw, is_valid};
 

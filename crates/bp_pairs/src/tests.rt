@@ -5,35 +5,11 @@ ghost use Rattle.bp_base.specs.Tree.{leaf_count};
 ghost use Rattle.bp_metric.specs.Metric.{IsSheet};
 
 use super::*;
-use bp_base::{Choice, Name, Pair, Point, Sheet, Tree};
+use bp_base::{Choice, Pair, Point, Sheet};
 use bp_metric::Metric;
+use bp_samples::tree;
 use std::alloc::Global;
 use std::test::Fail;
-
-fn named(letter: &[u8]) -> Result<Name, Fail>
-    ensures { IfOk result (λ name. name ≡ letter.now) }
-{
-    match Name::new(letter) {
-        Some(name) => Ok(name),
-        None => Err(Fail::from("no name")),
-    }
-}
-
-// c p 2/c q 2/c r 2/c s 1/c t 1/
-fn star(alloc: Global) -> Result<Tree, Fail> {
-    let names = [
-        named(b"c")?,
-        named(b"p")?,
-        named(b"q")?,
-        named(b"r")?,
-        named(b"s")?,
-        named(b"t")?,
-    ];
-    let parents = Vec::from_slice(alloc, &[0; 6])?;
-    let lengths = Vec::from_slice(alloc, &[0, 2, 2, 2, 1, 1])?;
-    let names = Vec::from_slice(alloc, &names)?;
-    Ok(Tree::of(parents, lengths, names))
-}
 
 // Whether each pair of n leaves has the next number.
 fn are_numbered(n: u64) -> bool
@@ -71,7 +47,7 @@ fn is_flaw(
 ) -> Result<bool, Fail>
     requires { IsSheet sheet }
 {
-    let tree = star(alloc)?;
+    let tree = tree(alloc, &[0; 6], &[0, 2, 2, 2, 1, 1])?;
     let metric = Metric::on(alloc, &tree, sheet)?;
     if metric.leaves() != 5 {
         return Err(Fail::from("no star"));
@@ -144,7 +120,7 @@ fn letters(metric: &Metric, i: u64, j: u64) -> [char; 4]
 #[test]
 fn choices(rt: HostRuntime) -> Result<(), Fail> {
     let alloc = rt.alloc();
-    let tree = star(alloc)?;
+    let tree = tree(alloc, &[0; 6], &[0, 2, 2, 2, 1, 1])?;
     let square = Metric::of(alloc, &tree)?;
     let strip = Metric::on(alloc, &tree, Sheet::Strip { width: 4 })?;
     for (i, j, on_square, on_strip) in [
@@ -168,8 +144,10 @@ fn held(alloc: Global, x: u64, y: u64) -> Result<[bool; 4], Fail>
     requires x { x ≤ most_number }
     requires y { y ≤ most_number }
 {
-    let tree = star(alloc)?;
+    let tree = tree(alloc, &[0; 6], &[0, 2, 2, 2, 1, 1])?;
     let metric = Metric::of(alloc, &tree)?;
+    has_steady(&metric);
+    one_steady(&metric);
     let pair = Pair { i: 1, j: 2 };
     let origin = Point { x: 4, y: 4 };
     let points = [origin, Point { x, y }, origin, origin, origin];

@@ -15,7 +15,8 @@ use Rattle.bp_metric.specs.Valid.{Lies, Valid}
 use Rattle.bp_metric.proofs.Distances.{dist_comm}
 use Rattle.bp_metric.proofs.Leaves.{twins_alike}
 use Rattle.bp_metric.proofs.Ranges.{only_at, sum_only_at}
-use Rattle.bp_symmetry.specs.Twins.{IsExchanged, pair_of, late_class, points_of}
+use Rattle.bp_symmetry.specs.Twins.{pair_of, late_class, points_of}
+use Rattle.bp_symmetry.specs.Exchanges.{IsExchanged}
 use Rattle.bp_symmetry.proofs.LateTwins.{AreLate, both_in_class}
 
 gap_comm : (p r : Point) → gap p r ≡ gap r p

@@ -15,7 +15,8 @@ use Rattle.bp_metric.specs.Next.{IsEarlier}
 use Rattle.bp_metric.specs.Valid.{Valid}
 use Rattle.bp_pairs.specs.Numbers.{pair_number, pair_count}
 use Rattle.bp_pairs.proofs.PairNumbers.{numbers_rise, number_below, pairs_ordered, pair_of_number}
-use Rattle.bp_symmetry.specs.Twins.{IsAfter, IsExchanged, IsHandedOut, PutsInOrder, pair_of, late_class, points_of}
+use Rattle.bp_symmetry.specs.Twins.{IsAfter, IsHandedOut, pair_of, late_class, points_of}
+use Rattle.bp_symmetry.specs.Exchanges.{IsExchanged, PutsInOrder}
 use Rattle.bp_symmetry.proofs.LateTwins.{AreLate, late_parts, late_from, late_sym, late_trans}
 use Rattle.bp_symmetry.proofs.Exchanges.{valid_exchange, same_exchange}
 use Rattle.bp_symmetry.proofs.Orders.{after_one_way, after_lower, after_or_not}

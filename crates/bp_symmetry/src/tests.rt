@@ -4,45 +4,12 @@ ghost use Rattle.bp_base.specs.Limits.{most_number};
 ghost use Rattle.bp_metric.specs.Metric.{IsSheet};
 
 use super::*;
-use bp_base::{Name, Point, Sheet, Tree};
+use bp_base::{Point, Sheet};
 use bp_metric::Metric;
 use bp_pairs::is_valid;
+use bp_samples::tree;
 use std::alloc::Global;
 use std::test::Fail;
-
-fn named(text: &[u8]) -> Result<Name, Fail>
-    ensures { IfOk result (λ name. name ≡ text.now) }
-{
-    match Name::new(text) {
-        Some(name) => Ok(name),
-        None => Err(Fail::from("no name")),
-    }
-}
-
-// n0 n1 9/n0 n2 8/n0 n3 2/
-fn three(alloc: Global) -> Result<Tree, Fail> {
-    let names = [named(b"n0")?, named(b"n1")?, named(b"n2")?, named(b"n3")?];
-    let parents = Vec::from_slice(alloc, &[0; 4])?;
-    let lengths = Vec::from_slice(alloc, &[0, 9, 8, 2])?;
-    let names = Vec::from_slice(alloc, &names)?;
-    Ok(Tree::of(parents, lengths, names))
-}
-
-// c p 2/c q 2/c r 2/c s 1/c t 1/
-fn five(alloc: Global) -> Result<Tree, Fail> {
-    let names = [
-        named(b"c")?,
-        named(b"p")?,
-        named(b"q")?,
-        named(b"r")?,
-        named(b"s")?,
-        named(b"t")?,
-    ];
-    let parents = Vec::from_slice(alloc, &[0; 6])?;
-    let lengths = Vec::from_slice(alloc, &[0, 2, 2, 2, 1, 1])?;
-    let names = Vec::from_slice(alloc, &names)?;
-    Ok(Tree::of(parents, lengths, names))
-}
 
 // Settles the points, which are valid at this side.
 fn settled(metric: &Metric, side: u64, points: &mut [Point]) -> Result<(), Fail>
@@ -64,7 +31,8 @@ fn settled(metric: &Metric, side: u64, points: &mut [Point]) -> Result<(), Fail>
 
 #[test]
 fn settled_opening(rt: HostRuntime) -> Result<(), Fail> {
-    let metric = Metric::of(rt.alloc(), &three(rt.alloc())?)?;
+    let three = tree(rt.alloc(), &[0; 4], &[0, 9, 8, 2])?;
+    let metric = Metric::of(rt.alloc(), &three)?;
     let mut points = [(0, 0), (0, 17), (10, 11)].map(|(x, y)| Point { x, y });
     settled(&metric, 17, &mut points)?;
     let wanted = [(0, 0), (17, 0), (11, 10)].map(|(x, y)| Point { x, y });
@@ -81,7 +49,8 @@ fn settles(
 ) -> Result<bool, Fail>
     requires { IsSheet sheet }
 {
-    let metric = Metric::on(alloc, &five(alloc)?, sheet)?;
+    let five = tree(alloc, &[0; 6], &[0, 2, 2, 2, 1, 1])?;
+    let metric = Metric::on(alloc, &five, sheet)?;
     let mut points = from.map(|(x, y)| Point { x, y });
     settled(&metric, 5, &mut points)?;
     Ok(points == to.map(|(x, y)| Point { x, y }))

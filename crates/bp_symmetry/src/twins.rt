@@ -6,7 +6,8 @@ ghost use Rattle.bp_base.specs.Tree.{leaf_count};
 ghost use Rattle.bp_metric.specs.Choices.{are_late_twins};
 ghost use Rattle.bp_metric.specs.Valid.{Valid};
 ghost use Rattle.bp_base.specs.Point.{IsSmallPoint};
-ghost use Rattle.bp_symmetry.specs.Twins.{IsAfter, IsHandedOut, PutsInOrder};
+ghost use Rattle.bp_symmetry.specs.Twins.{IsAfter, IsHandedOut};
+ghost use Rattle.bp_symmetry.specs.Exchanges.{PutsInOrder};
 
 use bp_base::{Pair, Point};
 use bp_metric::Metric;

@@ -1,9 +1,9 @@
 -- Tables of one number for each leaf, at the leaf's number.
-use Rattle.std.specs.Prelude.{◌≡◌, ◌⊎◌, ℕ, ◌+◌, ◌≤◌, List, slice_index, length}
+use Rattle.std.specs.Prelude.{◌≡◌, ◌⊎◌, ℕ, ◌+◌, ◌*◌, ◌≤◌, List, slice_index, length}
 use Rattle.bp_base.specs.declared.point.Axis.{Axis}
 use Rattle.bp_base.specs.declared.path.Step.{Step}
 use Rattle.bp_base.specs.Tree.{TreeValue, IsLeaf, leaf_count}
-use Rattle.bp_metric.specs.Distance.{leaf_dist}
+use Rattle.bp_metric.specs.Distance.{leaf_dist, most_distance}
 use Rattle.bp_metric.specs.Chains.{Places, IsChain, first_of, last_of}
 use Rattle.bp_metric.specs.Coordinates.{IsLow, AreShown}
 
@@ -11,9 +11,9 @@ use Rattle.bp_metric.specs.Coordinates.{IsLow, AreShown}
 abbrev pub places : ℕ
 places = 33
 
--- no coordinate is greater: 33 times the greatest distance
+-- no number of a table is greater, however its leaves are gone over
 abbrev pub most_low : ℕ
-most_low = 2079000
+most_low = most_distance * places
 
 -- each leaf's number meets each step that places a leaf before it, and some step makes it up or it is 0
 pub record IsLowTable (T : TreeValue) (path : List Step) (axis : Axis) (lows : List ℕ) : Type 0 where

@@ -1,13 +1,13 @@
 // What single steps and whole paths place before a leaf.
 ghost use Rattle.std.specs.Prelude.{◌≡◌, ◌↔◌, ◌≤◌, ◌<◌, ℕ, IsTrue, MatchOption, slice_index};
 ghost use Rattle.bp_metric.specs.Chains.{Places, PlacesBy};
-ghost use Rattle.bp_walks.specs.Steps.{IsBefore};
+ghost use Rattle.bp_walks.specs.Steps.{IsOnlyBefore};
 
 use bp_base::{Axis, Choice, Path, Step};
 
 // The leaf that the step places before this one on the axis.
 pub fn before(axis: Axis, step: Step, leaf: u64) -> Option<u64>
-    ensures { MatchOption result ((a : ℕ) → PlacesBy axis a leaf step.pair step.choice → ⊥) (λ p. IsBefore axis leaf step p) }
+    ensures { MatchOption result ((a : ℕ) → PlacesBy axis a leaf step.pair step.choice → ⊥) (λ p. IsOnlyBefore axis leaf step p) }
 {
     let forward = step.pair.j == leaf;
     let backward = step.pair.i == leaf;

@@ -1,71 +1,17 @@
 // Least coordinates of worked paths.
-ghost use Rattle.std.specs.Prelude.{◌≡◌, ◌≤◌, IsTrue, IfOk};
-ghost use Rattle.bp_metric.specs.Chains.{HasPairsOf};
-ghost use Rattle.bp_metric.specs.Metric.{IsSheet};
-ghost use Rattle.bp_metric.specs.Samples.{is_sample, letters};
 
 use crate::{cycle_on, least, one_least};
-use bp_base::{Axis, Chain, Choice, Claim, Name, Pair, Path, Sheet, Step, Tree, Walked};
+use bp_base::{Axis, Choice, Claim, Sheet, Step, Walked};
 use bp_metric::Metric;
+use bp_samples::{leaves_of, path_of, step, tree};
 use std::alloc::Global;
 use std::process::Abort;
 use std::test::Fail;
 
-// The names a, b, c, ..
-fn names(alloc: Global, count: usize) -> Result<Vec<Name>, Fail>
-    requires { count ≤ 26 }
-    ensures { IfOk result (λ v. v.items ≡ letters count) }
-{
-    let mut names = Vec::new(alloc);
-    for number in 0..count {
-        match Name::new(&[97 + number as u8]) {
-            Some(name) => names.push(name)?,
-            None => return Err(Fail::from("no name")),
-        }
-    }
-    Ok(names)
-}
-
-fn tree(alloc: Global, parents: &[u64], lengths: &[u64]) -> Result<Tree, Fail>
-    requires { IsTrue (is_sample parents.now lengths.now) }
-{
-    let names = names(alloc, parents.len())?;
-    let parents = Vec::from_slice(alloc, parents)?;
-    let lengths = Vec::from_slice(alloc, lengths)?;
-    Ok(Tree::of(parents, lengths, names))
-}
-
-// The path of these steps, for n leaves.
-fn path_of(alloc: Global, n: u64, steps: &[(u64, u64, Choice)]) -> Result<Path, Fail>
-    requires { n ≤ 32 }
-    ensures { IfOk result (λ path. HasPairsOf n path) }
-{
-    let mut path = Path::empty(alloc);
-    for (i, j, choice) in steps {
-        if *i < 1 || *i >= *j || n < *j || path.len() >= 496 {
-            return Err(Fail::from("no step"));
-        }
-        let pair = Pair { i: *i, j: *j };
-        path.push(Step {
-            pair,
-            choice: *choice,
-        })?;
-    }
-    Ok(path)
-}
-
-fn leaves_of(alloc: Global, chain: &Chain) -> Result<Vec<u64>, Fail> {
-    let mut leaves = Vec::new(alloc);
-    for k in 0..chain.len() {
-        leaves.push(chain.at(k))?;
-    }
-    Ok(leaves)
-}
-
 // What is wanted of a path: its coordinates and what it forces, or none of these where it has a cycle; and its claim.
 #[derive(Drop)]
 struct Wanted<'a> {
-    steps: &'a [(u64, u64, Choice)],
+    steps: &'a [Step],
     xs: &'a [u64],
     ys: &'a [u64],
     forced: u64,
@@ -123,7 +69,7 @@ const BELOW: Choice = Choice::Below;
 const ABOVE: Choice = Choice::Above;
 
 fn of_path<'a>(
-    steps: &'a [(u64, u64, Choice)],
+    steps: &'a [Step],
     xs: &'a [u64],
     ys: &'a [u64],
     forced: u64,
@@ -148,7 +94,7 @@ fn on_square(rt: HostRuntime) -> Result<(), Fail> {
     for row in &[
         of_path(&[], &[0, 0, 0], &[0, 0, 0], 0, X, &[1]),
         of_path(
-            &[(1, 2, LEFT), (2, 3, LEFT), (1, 3, RIGHT)],
+            &[step(1, 2, LEFT), step(2, 3, LEFT), step(1, 3, RIGHT)],
             &[],
             &[],
             0,
@@ -156,7 +102,7 @@ fn on_square(rt: HostRuntime) -> Result<(), Fail> {
             &[1, 2, 3],
         ),
         of_path(
-            &[(1, 2, LEFT), (2, 3, LEFT)],
+            &[step(1, 2, LEFT), step(2, 3, LEFT)],
             &[0, 2, 4],
             &[0, 0, 0],
             4,
@@ -164,7 +110,7 @@ fn on_square(rt: HostRuntime) -> Result<(), Fail> {
             &[1, 2, 3],
         ),
         of_path(
-            &[(1, 2, ABOVE), (1, 3, LEFT)],
+            &[step(1, 2, ABOVE), step(1, 3, LEFT)],
             &[0, 0, 2],
             &[2, 0, 0],
             2,
@@ -172,7 +118,7 @@ fn on_square(rt: HostRuntime) -> Result<(), Fail> {
             &[1, 3],
         ),
         of_path(
-            &[(1, 2, ABOVE), (1, 3, BELOW)],
+            &[step(1, 2, ABOVE), step(1, 3, BELOW)],
             &[0, 0, 0],
             &[2, 0, 4],
             4,
@@ -180,7 +126,7 @@ fn on_square(rt: HostRuntime) -> Result<(), Fail> {
             &[2, 1, 3],
         ),
         of_path(
-            &[(2, 3, LEFT), (1, 3, LEFT)],
+            &[step(2, 3, LEFT), step(1, 3, LEFT)],
             &[0, 0, 2],
             &[0, 0, 0],
             2,
@@ -188,7 +134,7 @@ fn on_square(rt: HostRuntime) -> Result<(), Fail> {
             &[1, 3],
         ),
         of_path(
-            &[(2, 3, BELOW), (1, 3, LEFT), (2, 3, ABOVE)],
+            &[step(2, 3, BELOW), step(1, 3, LEFT), step(2, 3, ABOVE)],
             &[],
             &[],
             0,
@@ -205,7 +151,7 @@ fn on_square(rt: HostRuntime) -> Result<(), Fail> {
 fn on_strips(rt: HostRuntime) -> Result<(), Fail> {
     let alloc = rt.alloc();
     let tree = tree(alloc, &[0, 0, 0, 0], &[0, 1, 1, 1])?;
-    let steps = [(1, 2, LEFT), (2, 3, LEFT)];
+    let steps = [step(1, 2, LEFT), step(2, 3, LEFT)];
     let wide = Metric::on(alloc, &tree, Sheet::Strip { width: 4 })?;
     is_wanted(
         &rt,
