@@ -1,10 +1,12 @@
 // Laws of floors.
-ghost use Rattle.std.specs.Prelude.{◌≡◌};
+ghost use Rattle.std.specs.Prelude.{◌≡◌, ◌≤◌, ℕ};
 ghost use Rattle.bp_base.specs.declared.point.Floor.{Floor as AnyFloor};
 ghost use Rattle.bp_metric.specs.Valid.{NoneBelow};
-ghost use Rattle.bp_metric.specs.Floor.{FloorHolds, IsFloor};
+ghost use Rattle.bp_metric.specs.Floor.{FloorHolds, IsFloor, IsFloorSide};
+ghost use Rattle.bp_metric.specs.Opening.{IsOpeningSide};
 
 use bp_metric::Metric;
+use bp_opening::opening_valid;
 
 /// The law of floors: where a floor holds, no placement has a smaller side, on no finer grid either.
 pub fn law_of_floors(metric: &Metric)
@@ -21,4 +23,12 @@ pub fn has_floor(metric: &Metric)
     ensures { (f : AnyFloor) × IsFloor metric.now.tree metric.now.sheet f }
 {
     let _count = metric.leaves();
+}
+
+/// The side of the floor is never greater than that of the opening, which is valid there.
+pub fn floor_within_opening(metric: &Metric)
+    ensures { (l u : ℕ) → IsFloorSide metric.now.tree metric.now.sheet l → IsOpeningSide metric.now.tree metric.now.sheet u → l ≤ u }
+{
+    let _count = metric.leaves();
+    opening_valid(metric);
 }

@@ -12,4 +12,4 @@ mod tests;
 
 pub use best::floor;
 pub use holds::floor_holds;
-pub use law::{has_floor, law_of_floors, one_floor};
+pub use law::{floor_within_opening, has_floor, law_of_floors, one_floor};

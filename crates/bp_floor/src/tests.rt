@@ -1,38 +1,13 @@
 // Floors of worked trees.
-ghost use Rattle.std.specs.Prelude.{◌≡◌, ◌≤◌, IsTrue, IfOk};
 ghost use Rattle.bp_metric.specs.Metric.{IsSheet};
-ghost use Rattle.bp_metric.specs.Samples.{is_sample, letters};
 
-use crate::{floor, floor_holds, has_floor, law_of_floors, one_floor};
-use bp_base::{Floor, Name, NoMemory, Sequence, Sheet, Tree};
+use crate::{floor, floor_holds, floor_within_opening, has_floor, law_of_floors, one_floor};
+use bp_base::{Floor, NoMemory, Sequence, Sheet, Tree};
 use bp_metric::Metric;
+use bp_samples::tree;
 use std::alloc::Global;
 use std::process::Abort;
 use std::test::Fail;
-
-// The names a, b, c, ..
-fn names(alloc: Global, count: usize) -> Result<Vec<Name>, NoMemory>
-    requires { count ≤ 26 }
-    ensures { IfOk result (λ v. v.items ≡ letters count) }
-{
-    let mut names = Vec::new(alloc);
-    for number in 0..count {
-        match Name::new(&[97 + number as u8]) {
-            Some(name) => names.push(name)?,
-            None => return Err(NoMemory),
-        }
-    }
-    Ok(names)
-}
-
-fn tree(alloc: Global, parents: &[u64], lengths: &[u64]) -> Result<Tree, NoMemory>
-    requires { IsTrue (is_sample parents.now lengths.now) }
-{
-    let names = names(alloc, parents.len())?;
-    let parents = Vec::from_slice(alloc, parents)?;
-    let lengths = Vec::from_slice(alloc, lengths)?;
-    Ok(Tree::of(parents, lengths, names))
-}
 
 // The tree's floor on the sheet, and that no other side holds for its leaves.
 fn is_floor(
@@ -59,6 +34,7 @@ fn is_floor(
     };
     assert!(rt; !floor_holds(&metric, &more));
     law_of_floors(&metric);
+    floor_within_opening(&metric);
     one_floor(&metric);
     has_floor(&metric);
     Ok(())

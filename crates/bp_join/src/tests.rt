@@ -1,47 +1,21 @@
 // Worked searches of stars, joined.
-ghost use Rattle.std.specs.Prelude.{◌≡◌, ◌++◌, ◌≤◌, IsTrue, IfOk, OnOk, All};
+ghost use Rattle.std.specs.Prelude.{◌≡◌, ◌++◌, ◌≤◌, IfOk, OnOk, All};
 ghost use Rattle.bp_base.specs.Path.{IsPairOf};
 ghost use Rattle.bp_base.specs.Tree.{leaf_count};
 ghost use Rattle.bp_metric.specs.Chains.{HasPairsOf};
 ghost use Rattle.bp_metric.specs.Metric.{IsSheet};
 ghost use Rattle.bp_metric.specs.Records.{children, paths_left};
-ghost use Rattle.bp_metric.specs.Samples.{is_sample, letters};
 ghost use Rattle.bp_join.specs.Searches.{CanJoin};
 
 use crate::join;
-use bp_base::{
-    Axis, Chain, Claim, Name, Pair, Path, Record, RecordKind, Refutation, Sheet, Step, Task, Tree,
-};
+use bp_base::{Axis, Chain, Claim, Pair, Path, Record, RecordKind, Refutation, Sheet, Step, Task};
 use bp_branch::extended;
 use bp_metric::Metric;
 use bp_pairs::allowed;
+use bp_samples::tree;
 use std::alloc::Global;
 use std::process::Abort;
 use std::test::Fail;
-
-// The names a, b, c, ..
-fn names(alloc: Global, count: usize) -> Result<Vec<Name>, Fail>
-    requires { count ≤ 26 }
-    ensures { IfOk result (λ v. v.items ≡ letters count) }
-{
-    let mut names = Vec::new(alloc);
-    for number in 0..count {
-        match Name::new(&[97 + number as u8]) {
-            Some(name) => names.push(name)?,
-            None => return Err(Fail::from("no name")),
-        }
-    }
-    Ok(names)
-}
-
-fn tree(alloc: Global, parents: &[u64], lengths: &[u64]) -> Result<Tree, Fail>
-    requires { IsTrue (is_sample parents.now lengths.now) }
-{
-    let names = names(alloc, parents.len())?;
-    let parents = Vec::from_slice(alloc, parents)?;
-    let lengths = Vec::from_slice(alloc, lengths)?;
-    Ok(Tree::of(parents, lengths, names))
-}
 
 // What a search does with the task at a place in the list of those left.
 #[derive(Clone, Copy)]

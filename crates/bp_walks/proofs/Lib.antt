@@ -3,3 +3,4 @@ pub mod Trails
 mod Done
 mod OneLeast
 pub mod Fine
+pub mod LeastThere

@@ -14,5 +14,5 @@ mod walking;
 
 pub use cycles::begun_at_least;
 pub use judging::{Judged, judge_greatest};
-pub use laws::one_least;
+pub use laws::{has_least, one_least};
 pub use walking::{cycle_on, least};

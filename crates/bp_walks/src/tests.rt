@@ -1,6 +1,6 @@
 // Least coordinates of worked paths.
 
-use crate::{cycle_on, least, one_least};
+use crate::{cycle_on, has_least, least, one_least};
 use bp_base::{Axis, Choice, Claim, Sheet, Step, Walked};
 use bp_metric::Metric;
 use bp_samples::{leaves_of, path_of, step, tree};
@@ -33,6 +33,7 @@ fn is_wanted(rt: &impl Abort, alloc: Global, metric: &Metric, wanted: &Wanted) -
             is_claim(rt, alloc, &claim, wanted, false)?;
         }
     }
+    has_least(metric);
     one_least(metric);
     let closed = cycle_on(alloc, metric, &path, wanted.axis);
     assert_eq!(rt; closed.is_some(), wanted.xs.is_empty());

@@ -15,7 +15,8 @@ use Rattle.bp_walks.specs.Lows.{ShowsLeaf}
 use Rattle.bp_walks.proofs.Fine.{IsTop, fine_least}
 use Rattle.bp_warm.specs.Links.{ordered, reversed, LinksValue, AreLinks}
 use Rattle.bp_warm.specs.Raising.{low_in, IsExact}
-use Rattle.bp_warm.specs.Warm.{IsFrame, IsHalf, pair_count}
+use Rattle.bp_warm.specs.Warm.{pair_count}
+use Rattle.bp_warm.specs.Kept.{IsFrame, IsHalf}
 use Rattle.bp_warm.proofs.Pulling.{exact_lows}
 
 -- the top of a row

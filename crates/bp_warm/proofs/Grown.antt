@@ -7,12 +7,12 @@ use Rattle.bp_base.specs.declared.point.Axis.{Axis}
 use Rattle.bp_base.specs.declared.path.Step.{Step}
 use Rattle.bp_base.specs.Path.{IsPairOf}
 use Rattle.bp_base.specs.Tree.{TreeValue, IsTree, IsLeaf, leaf_count}
-use Rattle.bp_metric.specs.Distance.{leaf_dist}
+use Rattle.bp_metric.specs.Distance.{leaf_dist, most_side}
 use Rattle.bp_metric.specs.Chains.{Places, HasPairsOf}
 use Rattle.bp_metric.proofs.Chains.{places_left, places_cases, places_one}
 use Rattle.bp_metric.proofs.Lows.{AreLows, is_low, low_small}
 use Rattle.bp_warm.specs.Links.{IsOrder, other}
-use Rattle.bp_warm.specs.Raising.{most_low, low_in, WorkValue, IsExact, IsWorking, IsRelaxed}
+use Rattle.bp_warm.specs.Raising.{low_in, WorkValue, IsExact, IsWorking, IsRelaxed}
 use Rattle.bp_warm.proofs.Ordering.{order_by, order_alone, order_none}
 use Rattle.bp_warm.proofs.Pulling.{exact_lows}
 use Rattle.bp_warm.proofs.RowRaised.{ends}
@@ -22,7 +22,7 @@ longer_pairs n path s pairs pair =
     All-append (λ (r : Step). IsPairOf n r.pair) path (s ∷ []) pairs (All-cons (λ (r : Step). IsPairOf n r.pair) s [] pair (λ k d less. absurd (omega arith)))
 
 -- the coordinates of leaves are small
-pub small_from : (T : TreeValue) (t : IsTree T) (path : List Step) (pairs : HasPairsOf (leaf_count T) path) (axis : Axis) (row : List ℕ) → length row ≡ leaf_count T → AreLows T path axis (low_in row) → (i : ℕ) → low_in row i ≤ most_low
+pub small_from : (T : TreeValue) (t : IsTree T) (path : List Step) (pairs : HasPairsOf (leaf_count T) path) (axis : Axis) (row : List ℕ) → length row ≡ leaf_count T → AreLows T path axis (low_in row) → (i : ℕ) → low_in row i ≤ most_side
 small_from T t path pairs axis row each lows i = elim (cases_lt (i - 1) (length row)) [
   | inr past ↦ omega (arith, get_or_past row (i - 1) 0 past)
   | inl within ↦

@@ -10,7 +10,8 @@ use Rattle.bp_metric.specs.Chains.{HasPairsOf, HasCycleOn}
 use Rattle.bp_metric.proofs.Lows.{no_cycle}
 use Rattle.bp_warm.specs.Links.{ordered, reversed, turn_all, LinksValue, AreLinks, IsOrder, other}
 use Rattle.bp_warm.specs.Raising.{IsExact, low_in}
-use Rattle.bp_warm.specs.Warm.{IsHalf, pair_count}
+use Rattle.bp_warm.specs.Warm.{pair_count}
+use Rattle.bp_warm.specs.Kept.{IsHalf}
 use Rattle.bp_warm.proofs.Ordering.{order_pairs, order_empty, order_leaves}
 use Rattle.bp_warm.proofs.Linked.{none_links, none_back, add_links, remove_links, short_after, short_before}
 use Rattle.bp_warm.proofs.Grown.{other_exact, longer_pairs}

@@ -16,7 +16,8 @@ use Rattle.bp_metric.specs.Chains.{HasPairsOf}
 use Rattle.bp_metric.specs.Coordinates.{IsLeast}
 use Rattle.bp_metric.specs.Metric.{IsSheet}
 use Rattle.bp_warm.specs.Links.{LinksValue}
-use Rattle.bp_warm.specs.Warm.{pair_count, IsHalf, IsFrame, IsLong, IsWarm}
+use Rattle.bp_warm.specs.Warm.{pair_count}
+use Rattle.bp_warm.specs.Kept.{IsHalf, IsFrame, IsLong, IsWarm}
 use Rattle.bp_warm.proofs.Grown.{longer_pairs}
 
 pub pairs_as : (T U : TreeValue) (p q : List Step) → U ≡ T → q ≡ p → HasPairsOf (leaf_count T) p → HasPairsOf (leaf_count U) q

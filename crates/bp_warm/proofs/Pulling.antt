@@ -5,12 +5,13 @@ use Rattle.std.proofs.lemmas.Bool.{cases_eq}
 use Rattle.bp_base.specs.declared.point.Axis.{Axis}
 use Rattle.bp_base.specs.declared.path.Step.{Step}
 use Rattle.bp_base.specs.Tree.{TreeValue, IsTree, IsLeaf, leaf_count, leaf_node}
-use Rattle.bp_metric.specs.Distance.{leaf_dist, most_distance}
+use Rattle.bp_metric.specs.Distance.{leaf_dist, most_distance, most_side}
 use Rattle.bp_metric.specs.Chains.{Places, HasPairsOf}
 use Rattle.bp_metric.proofs.Distances.{dist_small}
 use Rattle.bp_metric.proofs.Lows.{AreLows, placed_leaves}
 use Rattle.bp_warm.specs.declared.raising.Pulled.TheVariants.{Met, Again, Cycle}
-use Rattle.bp_warm.specs.Raising.{places, most_low, low_in, WorkValue, IsExact, IsWorking, HasRisen, IsRelaxed, IsRowAfter, IsPulled, IsPulledAll}
+use Rattle.bp_warm.specs.Raising.{low_in, WorkValue, IsExact, IsWorking, HasRisen, IsRelaxed, IsRowAfter, IsPulled, IsPulledAll}
+use Rattle.bp_walks.specs.Lows.{places}
 use Rattle.bp_warm.proofs.RowRaised.{few_moved, new_more, risen_sum, met_here, u_same, raised_first, raised_again, relaxed_first}
 
 pub exact_lows : (T : TreeValue) (path : List Step) (axis : Axis) (row : List ℕ) → IsExact T path axis row → AreLows T path axis (low_in row)
@@ -21,7 +22,7 @@ module _ (T : TreeValue) (t : IsTree T) (path : List Step) (pairs : HasPairsOf (
   lowest = exact_lows T path axis old exact
 
   -- no coordinate is great
-  pub moved_small : (k : ℕ) → k < work.count → low_in lows (get_or work.moved k 0) ≤ 2 * most_low + most_distance
+  pub moved_small : (k : ℕ) → k < work.count → low_in lows (get_or work.moved k 0) ≤ 2 * most_side + most_distance
   moved_small k less =
       omega (arith, is.small k less, exact.small (get_or work.moved k 0), exact.small a, dist_small T t (leaf_node T a) (leaf_node T b))
 

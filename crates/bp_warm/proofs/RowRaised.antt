@@ -12,7 +12,8 @@ use Rattle.bp_metric.specs.Distance.{leaf_dist}
 use Rattle.bp_metric.specs.Chains.{PlacesBy, Places, HasPairsOf}
 use Rattle.bp_metric.proofs.Chains.{places_left, places_right, places_cases, places_one}
 use Rattle.bp_metric.proofs.Lows.{AreLows, placed_leaves, few_leaves}
-use Rattle.bp_warm.specs.Raising.{places, low_in, IsRaising, IsRelaxed}
+use Rattle.bp_warm.specs.Raising.{low_in, IsRaising, IsRelaxed}
+use Rattle.bp_walks.specs.Lows.{places}
 
 -- one of the first numbers of a list is this one, or none is
 pub find : (xs : List ℕ) (i count : ℕ) → ((k : ℕ) × (k < count) × (get_or xs k 0 ≡ i)) ⊎ ((k : ℕ) → k < count → get_or xs k 0 ≢ i)

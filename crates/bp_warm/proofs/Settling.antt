@@ -7,7 +7,8 @@ use Rattle.bp_base.specs.Tree.{TreeValue, IsTree, IsLeaf, leaf_count}
 use Rattle.bp_metric.specs.Distance.{leaf_dist}
 use Rattle.bp_metric.specs.Chains.{HasPairsOf}
 use Rattle.bp_warm.specs.declared.raising.Pulled.TheVariants.{Met, Again}
-use Rattle.bp_warm.specs.Raising.{places, low_in, WorkValue, IsExact, IsWorking, IsRelaxed, IsPulledAll}
+use Rattle.bp_warm.specs.Raising.{low_in, WorkValue, IsExact, IsWorking, IsRelaxed, IsPulledAll}
+use Rattle.bp_walks.specs.Lows.{places}
 use Rattle.bp_warm.proofs.Pulling.{moved_small, exact_lows}
 use Rattle.bp_warm.proofs.RowRaised.{find, begin}
 

@@ -6,6 +6,7 @@ use Rattle.bp_base.specs.declared.path.Choice.{Choice}
 use Rattle.bp_base.specs.declared.path.Choice.TheVariants.{Left, Right, Below, Above}
 use Rattle.bp_base.specs.declared.path.Pair.{Pair}
 use Rattle.bp_base.specs.declared.path.Step.{Step}
+use Rattle.bp_walks.specs.Lows.{places}
 
 abbrev pub turned : Pair → Pair
 turned p = record { i = p.j; j = p.i }
@@ -48,8 +49,8 @@ pub record LinksValue : Type 0 where
 
 -- the row of each leaf is that of the path
 pub record AreLinks (g : Step → List Pair) (path : List Step) (l : LinksValue) : Type 0 where
-  pub each : length l.rows ≡ 33
-  pub row : (u : ℕ) → u < 33 → slice_index_or l.rows u [] ≡ row_of g path u
+  pub each : length l.rows ≡ places
+  pub row : (u : ℕ) → u < places → slice_index_or l.rows u [] ≡ row_of g path u
 
 -- the choice places leaf a before leaf b on this axis
 abbrev pub IsOrder : Pair → Choice → Axis → ℕ → ℕ → Type 0

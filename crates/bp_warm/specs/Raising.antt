@@ -5,16 +5,9 @@ use Rattle.bp_warm.specs.declared.raising.Pulled.TheVariants.{Met, Again, Cycle}
 use Rattle.bp_base.specs.declared.point.Axis.{Axis}
 use Rattle.bp_base.specs.declared.path.Step.{Step}
 use Rattle.bp_base.specs.Tree.{TreeValue, IsLeaf, leaf_count}
-use Rattle.bp_metric.specs.Distance.{leaf_dist}
+use Rattle.bp_metric.specs.Distance.{leaf_dist, most_side}
 use Rattle.bp_metric.specs.Chains.{Places}
-
--- tables hold 32 numbers for leaves; that at 0 is not used
-abbrev pub places : ℕ
-places = 33
-
--- no coordinate is greater: 31 times the greatest distance
-abbrev pub most_low : ℕ
-most_low = 1953000
+use Rattle.bp_walks.specs.Lows.{places}
 
 -- the coordinate of leaf i in a row
 abbrev pub low_in : List ℕ → ℕ → ℕ
@@ -66,7 +59,7 @@ IsRelaxed T path axis lows moved done =
 -- the row's coordinates meet each step of the path on the axis, and each is 0 or made up by a step
 pub record IsExact (T : TreeValue) (path : List Step) (axis : Axis) (row : List ℕ) : Type 0 where
   pub each : length row ≡ leaf_count T
-  pub small : (i : ℕ) → low_in row i ≤ most_low
+  pub small : (i : ℕ) → low_in row i ≤ most_side
   pub meets : (a b : ℕ) → Places path axis a b → low_in row a + leaf_dist T a b ≤ low_in row b
   pub made_up :
       (i : ℕ) → IsLeaf T i → (low_in row i ≡ 0) ⊎ ((p : ℕ) × Places path axis p i × (low_in row p + leaf_dist T p i ≡ low_in row i))

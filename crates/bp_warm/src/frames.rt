@@ -4,7 +4,7 @@ ghost use Rattle.bp_base.specs.Tree.{leaf_count};
 ghost use Rattle.bp_metric.specs.Chains.{HasPairsOf};
 ghost use Rattle.bp_warm.specs.Links.{AreLinks, reversed};
 ghost use Rattle.bp_warm.specs.Raising.{IsExact};
-ghost use Rattle.bp_warm.specs.Warm.{IsFrame, IsLong};
+ghost use Rattle.bp_warm.specs.Kept.{IsFrame, IsLong};
 
 use crate::links::Links;
 use crate::showing::{greatest_leaf, shown_chain};

@@ -6,7 +6,8 @@ ghost use Rattle.bp_metric.specs.Chains.{HasPairsOf};
 ghost use Rattle.bp_metric.specs.Coordinates.{IsLoop, IsCycleShown};
 ghost use Rattle.bp_warm.specs.Links.{IsOrder, other};
 ghost use Rattle.bp_warm.specs.Raising.{IsExact};
-ghost use Rattle.bp_warm.specs.Warm.{IsHalf, IsSameHalf, pair_count};
+ghost use Rattle.bp_warm.specs.Warm.{pair_count};
+ghost use Rattle.bp_warm.specs.Kept.{IsHalf, IsSameHalf};
 
 use crate::growing::grow;
 use crate::links::Links;

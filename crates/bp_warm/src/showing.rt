@@ -3,7 +3,7 @@ ghost use Rattle.std.specs.Prelude.{◌≡◌, ◌+◌, ◌≤◌, ◌<◌, ◌�
 ghost use Rattle.bp_base.specs.Tree.{leaf_count, IsLeaf};
 ghost use Rattle.bp_metric.specs.Chains.{HasPairsOf, Places};
 ghost use Rattle.bp_metric.specs.Coordinates.{IsLeast};
-ghost use Rattle.bp_metric.specs.Distance.{leaf_dist};
+ghost use Rattle.bp_metric.specs.Distance.{leaf_dist, most_side};
 ghost use Rattle.bp_walks.specs.Lows.{ShowsLeaf};
 ghost use Rattle.bp_warm.specs.Links.{AreLinks, reversed};
 ghost use Rattle.bp_warm.specs.Raising.{IsExact, IsRowBefore, low_in};
@@ -96,7 +96,7 @@ fn better(metric: &Metric, row: &[u64], leaf: u64, best: Option<u64>, before: u6
     requires before { IsLeaf metric.now.tree before }
     requires leaf { IsLeaf metric.now.tree leaf }
     requires each { length row.now ≡ leaf_count metric.now.tree }
-    requires small { low_in row.now before ≤ 4000000 }
+    requires small { low_in row.now before ≤ most_side }
     ensures none { MatchOption result ((best ≡ None) × (low_in row.now before + leaf_dist metric.now.tree before leaf ≡ low_in row.now leaf → ⊥)) (λ p. 1 ≤ 1) }
     ensures some { MatchOption result (1 ≤ 1) (λ p. (best ≡ Some p) ⊎ ((p ≡ before) × (low_in row.now before + leaf_dist metric.now.tree before leaf ≡ low_in row.now leaf))) }
     ensures before { MatchOption result (1 ≤ 1) (λ p. low_in row.now before + leaf_dist metric.now.tree before leaf ≡ low_in row.now leaf → p ≤ before) }

@@ -1,67 +1,18 @@
 // A warm state compared with least coordinates from scratch.
-ghost use Rattle.std.specs.Prelude.{◌≡◌, ◌≤◌, ◌<◌, IsTrue, IfOk, OnOk, length};
+ghost use Rattle.std.specs.Prelude.{◌≡◌, ◌<◌, OnOk, length};
 ghost use Rattle.bp_base.specs.Path.{IsPairOf};
 ghost use Rattle.bp_base.specs.Tree.{leaf_count};
-ghost use Rattle.bp_metric.specs.Chains.{HasPairsOf};
 ghost use Rattle.bp_metric.specs.Metric.{IsSheet};
-ghost use Rattle.bp_metric.specs.Samples.{is_sample, letters};
 ghost use Rattle.bp_warm.specs.Warm.{pair_count};
 
 use crate::Warm;
-use bp_base::{Axis, Chain, Choice, Claim, Least, Name, Pair, Path, Sheet, Step, Tree, Walked};
+use bp_base::{Axis, Choice, Claim, Least, Pair, Sheet, Step, Tree, Walked};
 use bp_metric::Metric;
+use bp_samples::{leaves_of, path_of, step, tree};
 use bp_walks::least;
 use std::alloc::Global;
 use std::process::Abort;
 use std::test::Fail;
-
-// The names a, b, c, ..
-fn names(alloc: Global, count: usize) -> Result<Vec<Name>, Fail>
-    requires { count ≤ 26 }
-    ensures { IfOk result (λ v. v.items ≡ letters count) }
-{
-    let mut names = Vec::new(alloc);
-    for number in 0..count {
-        match Name::new(&[97 + number as u8]) {
-            Some(name) => names.push(name)?,
-            None => return Err(Fail::from("no name")),
-        }
-    }
-    Ok(names)
-}
-
-fn tree(alloc: Global, parents: &[u64], lengths: &[u64]) -> Result<Tree, Fail>
-    requires { IsTrue (is_sample parents.now lengths.now) }
-{
-    let names = names(alloc, parents.len())?;
-    let parents = Vec::from_slice(alloc, parents)?;
-    let lengths = Vec::from_slice(alloc, lengths)?;
-    Ok(Tree::of(parents, lengths, names))
-}
-
-// The path of these steps, for n leaves.
-fn path_of(alloc: Global, n: u64, steps: &[Step]) -> Result<Path, Fail>
-    requires { n ≤ 32 }
-    ensures { IfOk result (λ path. HasPairsOf n path) }
-{
-    let mut path = Path::empty(alloc);
-    for step in steps {
-        let pair = step.pair;
-        if pair.i < 1 || pair.i >= pair.j || n < pair.j || path.len() >= 496 {
-            return Err(Fail::from("no step"));
-        }
-        path.push(*step)?;
-    }
-    Ok(path)
-}
-
-fn leaves_of(alloc: Global, chain: &Chain) -> Result<Vec<u64>, Fail> {
-    let mut leaves = Vec::new(alloc);
-    for k in 0..chain.len() {
-        leaves.push(chain.at(k))?;
-    }
-    Ok(leaves)
-}
 
 // The axis and the leaves of a walk.
 fn shown(alloc: Global, claim: &Claim) -> Result<(Axis, Vec<u64>), Fail> {
@@ -232,13 +183,6 @@ fn put(
     Err(Fail::from("no step"))
 }
 
-fn left_of(i: u64, j: u64) -> Step {
-    Step {
-        pair: Pair { i, j },
-        choice: Choice::Left,
-    }
-}
-
 #[test]
 fn two_steps_of_a_star(rt: HostRuntime) -> Result<(), Fail> {
     let alloc = rt.alloc();
@@ -246,8 +190,20 @@ fn two_steps_of_a_star(rt: HostRuntime) -> Result<(), Fail> {
     let metric = Metric::of(alloc, &tree)?;
     let mut warm = Warm::open(alloc, &metric)?;
     let mut steps = Vec::new(alloc);
-    put(alloc, &metric, &mut warm, &mut steps, left_of(1, 2))?;
-    put(alloc, &metric, &mut warm, &mut steps, left_of(2, 3))?;
+    put(
+        alloc,
+        &metric,
+        &mut warm,
+        &mut steps,
+        step(1, 2, Choice::Left),
+    )?;
+    put(
+        alloc,
+        &metric,
+        &mut warm,
+        &mut steps,
+        step(2, 3, Choice::Left),
+    )?;
     is_warm(&rt, alloc, &metric, &warm, &steps)?;
     let found = warm.least();
     assert_eq!(rt; found.xs.as_slice(), [0, 2, 4].as_slice());
@@ -297,18 +253,15 @@ fn from_path_to_path(rt: HostRuntime) -> Result<(), Fail> {
     let tree = tree(alloc, &[0, 0, 0, 0], &[0, 1, 1, 1])?;
     let metric = Metric::of(alloc, &tree)?;
     let mut warm = Warm::open(alloc, &metric)?;
-    let right = Step {
-        pair: Pair { i: 1, j: 3 },
-        choice: Choice::Right,
-    };
+    let right = step(1, 3, Choice::Right);
     let paths: [&[Step]; 4] = [
-        &[left_of(1, 2), left_of(2, 3)],
-        &[left_of(1, 2), right],
+        &[step(1, 2, Choice::Left), step(2, 3, Choice::Left)],
+        &[step(1, 2, Choice::Left), right],
         &[],
-        &[left_of(2, 3)],
+        &[step(2, 3, Choice::Left)],
     ];
     go_along(&rt, alloc, &metric, &mut warm, &paths)?;
-    let cycle = [left_of(1, 2), left_of(2, 3), right];
+    let cycle = [step(1, 2, Choice::Left), step(2, 3, Choice::Left), right];
     assert!(rt; !goes(alloc, &metric, &mut warm, &cycle)?);
     Ok(())
 }

@@ -3,7 +3,8 @@ ghost use Rattle.bp_base.specs.declared.path.Step.{Step as AnyStep};
 ghost use Rattle.bp_base.specs.Path.{IsPairOf};
 ghost use Rattle.bp_base.specs.Tree.{leaf_count};
 ghost use Rattle.bp_metric.specs.Coordinates.{IsCycleShown, IsLeast};
-ghost use Rattle.bp_warm.specs.Warm.{IsHalf, pair_count};
+ghost use Rattle.bp_warm.specs.Warm.{pair_count};
+ghost use Rattle.bp_warm.specs.Kept.{IsHalf};
 
 use crate::frames::{blanks, fill};
 use crate::going::in_common;
@@ -32,7 +33,8 @@ pub struct Warm {
 
 impl Model for Warm {
     ghost use Rattle.std.specs.Vec.{vec_capacity};
-    ghost use Rattle.bp_warm.specs.Warm.{WarmValue, IsWarm};
+    ghost use Rattle.bp_warm.specs.Warm.{WarmValue};
+    ghost use Rattle.bp_warm.specs.Kept.{IsWarm};
 
     ghost Value = { WarmValue };
 

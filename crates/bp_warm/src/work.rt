@@ -1,6 +1,6 @@
 // Lists beside a row that is raised.
 ghost use Rattle.std.specs.Prelude.{◌≡◌, ◌<◌, ◌+◌, length, slice_index, slice_set, replicate, IfOk};
-ghost use Rattle.bp_warm.specs.Raising.{places};
+ghost use Rattle.bp_walks.specs.Lows.{places};
 
 use bp_base::NoMemory;
 use std::alloc::Global;
@@ -16,7 +16,8 @@ pub struct Work {
 
 impl Model for Work {
     ghost use Rattle.std.specs.Prelude.{◌≡◌, length};
-    ghost use Rattle.bp_warm.specs.Raising.{WorkValue, places};
+    ghost use Rattle.bp_warm.specs.Raising.{WorkValue};
+    ghost use Rattle.bp_walks.specs.Lows.{places};
 
     ghost Value = { WorkValue };
 

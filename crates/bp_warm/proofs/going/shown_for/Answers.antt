@@ -1,6 +1,5 @@
-use Rattle.std.proofs.Common.{◌≡◌, ◌+◌, ◌≤◌, ℕ, ◌∙◌, sym, ap, subst}
+use Rattle.std.proofs.Common.{◌∙◌, sym, ap, subst}
 use Rattle.bp_base.specs.Tree.{leaf_count}
-use Rattle.bp_base.specs.declared.chain.Claim.{Claim}
 use Rattle.bp_base.specs.declared.chain.Claim.TheVariants.{Cycle}
 use Rattle.bp_base.specs.declared.point.Axis.{Axis}
 use Rattle.bp_base.specs.declared.point.Axis.TheVariants.{X, Y}

@@ -5,7 +5,8 @@ use Rattle.bp_metric.specs.Metric.{MetricValue}
 use Rattle.bp_warm.specs.Warm.{WarmValue}
 use Rattle.bp_base.specs.declared.point.Axis.TheVariants.{X, Y}
 use Rattle.bp_base.specs.Path.{IsPairOf}
-use Rattle.bp_warm.specs.Warm.{IsLong, pair_count}
+use Rattle.bp_warm.specs.Warm.{pair_count}
+use Rattle.bp_warm.specs.Kept.{IsLong}
 use Rattle.bp_warm.proofs.Grown.{longer_pairs}
 use Rattle.bp_warm.proofs.Keeping.{pairs_as, frame_as, now_x, now_y, long_there, warm_more, half_as}
 use Rattle.bp_warm.proofs.warm.Warm.extend.Goals as goal
