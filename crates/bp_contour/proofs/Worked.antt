@@ -1,7 +1,7 @@
 -- Runs of a worked set: two squares that touch at a corner. The tour turns left there, so the squares stay two loops.
-use Rattle.std.proofs.Common.{◌≡◌, ◌≢◌, ◌⊎◌, ℕ, ◌+◌, ◌-◌, ◌<◌, ◌≤◌, refl, ap, subst, arith, inl, inr}
+use Rattle.std.proofs.Common.{◌⊎◌, ℕ, ◌<◌, ◌≤◌, refl, ap, arith, inl, inr}
 use Rattle.bp_base.specs.declared.point.Point.{Point}
-use Rattle.bp_regions.specs.Runs.{Below, Beside, GoesEast, GoesNorth, GoesSouth, GoesWest, IsAfter, IsRun, IsStretch, TurnsLeft}
+use Rattle.bp_regions.specs.Runs.{IsAfter, IsRun, TurnsLeft}
 
 -- the squares from (0,0) to (2,2) and from (2,2) to (4,4)
 abbrev corners : ℕ → ℕ → Type 0

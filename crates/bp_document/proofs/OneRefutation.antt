@@ -1,5 +1,5 @@
 -- A refutation's nodes follow one another, and are those of no other.
-use Rattle.std.proofs.Common.{◌≡◌, ℕ, suc, ◌+◌, ◌≤◌, List, [], ◌∷◌, ◌++◌, length, get_or, drop, map, All, Option, None, Some, refl, sym, ◌∙◌, ap, subst, arith, append_assoc}
+use Rattle.std.proofs.Common.{◌≡◌, ℕ, ◌+◌, ◌≤◌, List, [], ◌∷◌, ◌++◌, length, get_or, drop, map, All, Option, None, Some, refl, sym, ◌∙◌, ap, subst, arith, append_assoc}
 use Rattle.std.specs.List.{flat_map, AllByRecursion}
 use Rattle.std.proofs.lemmas.List.{append-nil}
 use Rattle.bp_base.specs.declared.path.Pair.{Pair}
@@ -7,7 +7,7 @@ use Rattle.bp_base.specs.declared.chain.Claim.{Claim}
 use Rattle.bp_base.specs.declared.refutation.Refutation.{Refutation}
 use Rattle.bp_base.specs.declared.refutation.Refutation.TheVariants.{Split, Closed, Open}
 use Rattle.bp_base.specs.Limits.{most_steps}
-use Rattle.bp_metric.specs.Nodes.{Part, SplitOf, ClosedBy, OpenBy, parts_of}
+use Rattle.bp_metric.specs.Nodes.{SplitOf, ClosedBy, OpenBy, parts_of}
 use Rattle.bp_metric.proofs.Refutations.{parts-split, parts-closed, parts-open}
 use Rattle.bp_document.specs.declared.node_line.NodeKind.{NodeKind}
 use Rattle.bp_document.specs.declared.node_line.NodeLine.{NodeLine}

@@ -1,5 +1,5 @@
 -- How long lines are at most, and with them the text of a document whose claims name leaves.
-use Rattle.std.proofs.Common.{◌≡◌, inl, inr, ℕ, suc, ◌+◌, ◌*◌, ◌-◌, ◌≤◌, ◌<◌, List, [], ◌∷◌, ◌++◌, length, get_or, map, All, decimal, Option, None, Some, refl, sym, ◌∙◌, ap, subst, arith, length-append}
+use Rattle.std.proofs.Common.{◌≡◌, inl, inr, ℕ, ◌+◌, ◌*◌, ◌-◌, ◌≤◌, List, [], ◌∷◌, ◌++◌, length, get_or, map, All, decimal, Option, None, Some, refl, ◌∙◌, ap, subst, arith, length-append}
 use Rattle.std.specs.Prelude.{codes}
 use Rattle.std.specs.List.{flat_map, zip, AllByRecursion}
 use Rattle.std.proofs.lemmas.Bool.{cases_lt}
@@ -16,7 +16,7 @@ use Rattle.bp_base.specs.declared.path.Pair.{Pair}
 use Rattle.bp_base.specs.declared.chain.Claim.{Claim}
 use Rattle.bp_base.specs.declared.chain.Claim.TheVariants.{Walk, Cycle}
 use Rattle.bp_base.specs.declared.refutation.Refutation.{Refutation}
-use Rattle.bp_base.specs.declared.refutation.Refutation.TheVariants.{Split, Closed, Open}
+use Rattle.bp_base.specs.declared.refutation.Refutation.TheVariants.{Split}
 use Rattle.bp_base.specs.Limits.{most_number, most_steps, most_document_bytes}
 use Rattle.bp_base.specs.Chain.{IsChainList}
 use Rattle.bp_base.specs.Name.{IsName}
@@ -29,7 +29,7 @@ use Rattle.bp_document.specs.Lines.{word, line, sheet_line, edge_line, point_lin
 use Rattle.bp_document.specs.Ranges.{IsDocument, IsSmallPoint, IsFloorLine, IsSmallPart, IsChainOf, HasProof, one_deeper, depth_of}
 use Rattle.bp_document.specs.Sizes.{IsClaimUpTo, IsPartUpTo, IsProofUpTo, NamesLeaves}
 use Rattle.bp_document.specs.Text.{doc_text, body_text, edge_lines, point_lines, proof_lines, node_lines}
-use Rattle.bp_document.proofs.Nodes.{lines_at, lines-split, lines-closed, lines-open, depth-split, depth-closed, depth-open}
+use Rattle.bp_document.proofs.Nodes.{lines_at, lines-split, lines-closed, lines-open, depth-split}
 use Rattle.bp_document.proofs.NodeLists.{by_nodes, all_left, all_right, all_given}
 
 -- lines and words

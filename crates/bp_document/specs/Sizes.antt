@@ -1,5 +1,5 @@
 -- Documents whose claims name leaves of their own tree. Their text is short enough to be read.
-use Rattle.std.specs.Prelude.{ℕ, ◌≤◌, List, All, Option, None, Some}
+use Rattle.std.specs.Prelude.{ℕ, ◌≤◌, All, Option, None, Some}
 use Rattle.bp_base.specs.declared.chain.Claim.{Claim}
 use Rattle.bp_base.specs.declared.chain.Claim.TheVariants.{Walk, Cycle}
 use Rattle.bp_base.specs.declared.refutation.Refutation.{Refutation}
