@@ -1,2 +1,2 @@
 pub mod Left
-mod Worked
+pub mod Worked

@@ -19,10 +19,10 @@ use Rattle.bp_metric.specs.Stated.{IsInner}
 use Rattle.bp_metric.proofs.TwoFlaps.{two, points, apart, only_pair, valid, opening}
 use Rattle.bp_core.specs.Settled.{IsSettled, Solves}
 
-abbrev pair : Pair
+abbrev pub pair : Pair
 pair = record { i = 1; j = 2 }
 
-opening_side : IsOpeningSide two Square 7
+pub opening_side : IsOpeningSide two Square 7
 opening_side = record { opening = points; is_opening = opening; is_side = refl }
 
 -- on the empty path no chain weighs anything
@@ -65,7 +65,7 @@ near = record {
   near = omega (arith, apart);
 }
 
-next : IsNextPair two [] pair
+pub next : IsNextPair two [] pair
 next = record {
   pair = (omega arith, omega arith, omega arith);
   near = near;
@@ -77,16 +77,16 @@ next = record {
     none_earlier r is (inl less) = omega (arith, is.0, less)
     none_earlier r is (inr (same, less)) = omega (arith, is.1, same, less)
 
-greatest : IsGreatestOn two [] X 0
+pub greatest : IsGreatestOn two [] X 0
 greatest = record { chain = 1 ∷ []; is_chain = alone X 1 (omega arith) (omega arith); weighs = refl; most = no_weight X }
 
-inner : IsInner two Square 7 [] pair
+pub inner : IsInner two Square 7 [] pair
 inner = record { forced = 0; is_forced = record { axis = X; on_axis = greatest; most = no_weight }; below = omega arith; next = next }
 
 forces_less : (v : ℕ) → IsForced two Square [] v → v < 7
 forces_less v forced = omega (arith, forced.on_axis.weighs, no_weight forced.axis forced.on_axis.chain forced.on_axis.is_chain)
 
-abbrev root : Record
+abbrev pub root : Record
 root = record { path = []; bound = 7; ticket = 0; given = 7; kind = Split pair }
 
 -- nothing is examined, and the root is left
