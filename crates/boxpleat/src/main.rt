@@ -4,19 +4,20 @@
 use bp_base::{CountSink, OpenGate, QuietSource, Sink, Source};
 use bp_engine::{Status, Words, run, words_of};
 use bp_outside::{FileSink, FileSource, Input, Output, words};
-use std::io;
+use std::io::{self, ErrorKind};
 use std::process::ExitCode;
 use std::rt::Runtime;
 use std::thread::Threads;
 
 fn main(rt: HostRuntime) -> ExitCode {
-    // Words that can't be had as text are a faulty command line, as no words at all are.
-    let words = match words(&rt) {
-        Ok(words) => words,
-        Err(_) => Vec::new(rt.alloc()),
-    };
     let mut err = Output::new(rt.stderr());
-    let status = match on_streams(&rt, &words, &mut err) {
+    let ran = match words(&rt) {
+        Ok(words) => on_streams(&rt, &words, &mut err),
+        Err(error) if error.kind() == ErrorKind::OutOfMemory => Err(error),
+        // Words that can't be had as text are a faulty command line, as no words at all are.
+        Err(_) => on_streams(&rt, &[], &mut err),
+    };
+    let status = match ran {
         Ok(status) => status,
         Err(_) => {
             let _ = err.write(b"no memory\n");
@@ -40,15 +41,19 @@ fn on_streams<R: Runtime + AllocGlobal + Threads + Sync, E: Sink>(
     };
     let mut no_fold = CountSink { length: 0 };
     Ok(match words_of(words) {
-        Some(Words::Check { tree } | Words::Revise { tree, .. }) => {
+        Some(Words::Check { tree } | Words::Revise { tree, .. } | Words::Verify { tree }) => {
             let mut file = FileSource::at(rt, words[tree as usize].clone()?);
             run_on(rt, words, &mut file, &mut input, &mut no_fold, err)
         }
-        Some(Words::Contours | Words::Rewrite | Words::Pieces) => {
+        Some(Words::Contours | Words::Rewrite | Words::Pieces | Words::Picture) => {
             run_on(rt, words, &mut nothing, &mut input, &mut no_fold, err)
         }
         Some(
             Words::Design {
+                fold: Some(place),
+                ..
+            }
+            | Words::Solve {
                 fold: Some(place),
                 ..
             },

@@ -5,7 +5,8 @@ use Rattle.std.specs.declared.option.Option.TheVariants.{None, Some}
 use Rattle.std.proofs.lemmas.List.{drop-drop, take_all, length-take-le, length-drop}
 use Rattle.std.proofs.Math.Seq.{take-add}
 use Rattle.bp_base.specs.Causes.{Reads, EndsAt}
-use Rattle.bp_engine.specs.Reading.{HasRead, IsRead}
+use Rattle.bp_check.specs.Streams.{HasRead}
+use Rattle.bp_engine.specs.Reading.{IsRead}
 
 take_plus : (n k : ℕ) (l : List ℕ) → take n l ++ take k (drop n l) ≡ take (n + k) l
 take_plus n k l = sym (take-add n k l)

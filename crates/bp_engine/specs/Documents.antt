@@ -1,5 +1,5 @@
 -- What `rewrite` and `contours` read and write.
-use Rattle.std.specs.Prelude.{◌≡◌, ◌⊎◌, ℕ, ◌+◌, List, [], ◌∷◌, ◌++◌, length, drop, take, codes, decimal}
+use Rattle.std.specs.Prelude.{◌≡◌, ◌⊎◌, ℕ, ◌+◌, List, [], ◌∷◌, ◌++◌, length, codes, decimal}
 use Rattle.std.specs.List.{flat_map}
 use Rattle.std.specs.declared.option.Option.{Option}
 use Rattle.std.specs.declared.option.Option.TheVariants.{Some}
@@ -7,11 +7,8 @@ use Rattle.bp_base.specs.declared.point.Point.{Point}
 use Rattle.bp_base.specs.declared.point.Sheet.{Sheet}
 use Rattle.bp_base.specs.declared.point.Sheet.TheVariants.{Square, Strip}
 use Rattle.bp_base.specs.Causes.{Appends, AppendsFront}
-use Rattle.bp_base.specs.Limits.{most_document_bytes}
 use Rattle.bp_base.specs.Tree.{TreeValue, name_of, node_count}
 use Rattle.bp_document.specs.declared.document.Document.{Document}
-use Rattle.bp_document.specs.declared.fault.DocFault.{DocFault}
-use Rattle.bp_document.specs.Faults.{IsDocFault, IsTextOf}
 use Rattle.bp_document.specs.Text.{doc_text}
 use Rattle.bp_check.specs.declared.verdict.Reason.{Reason}
 use Rattle.bp_check.specs.declared.verdict.Reason.TheVariants.{TreeDiffers, Outside, TooNear, BadFloor, BadSplit, BadChain, BoundNotShown, StripSheet}
@@ -20,81 +17,23 @@ use Rattle.bp_check.specs.Reasons.{IsFirstReason}
 use Rattle.bp_regions.specs.Cells.{Reach}
 use Rattle.bp_regions.specs.Contours.{AreContours}
 use Rattle.bp_engine.specs.declared.status.Status.{Status}
-use Rattle.bp_engine.specs.declared.status.Status.TheVariants.{Done, TreeRefused, DocRefused, Usage, GaveUp, ReadFault, WriteFault, NoMemory, No, NotBuilt}
-use Rattle.bp_engine.specs.Reading.{Told}
+use Rattle.bp_engine.specs.declared.status.Status.TheVariants.{Done, WriteFault, NoMemory, No}
+use Rattle.bp_engine.specs.Reading.{ReadsDoc, ReadsNoDoc}
 
--- as many bytes as are read of a document: one more than it may have
-abbrev pub most_doc_read : ℕ
-most_doc_read = most_document_bytes + 1
-
--- The source was read to its end, and its bytes are a text of D, where it tells them.
-abbrev pub ReadsDoc : Option (List ℕ) → Option (List ℕ) → Document → Type 0
-ReadsDoc left after D = Told left (λ b. IsTextOf b D × (after ≡ Some []))
-
--- the bytes are no document's text, and this is their first fault
-pub record IsRefusedDoc (bytes : List ℕ) (fault : DocFault) : Type 0 where
-  pub is_fault : IsDocFault bytes fault
-  pub no_document : (D : Document) → IsTextOf bytes D → ⊥
-
--- Why no document came of a source: what was left of it before and after. A refused document is judged by its bytes, read to the end or
--- to one byte past the limit.
-abbrev pub ReadsNoDoc : Option (List ℕ) → Option (List ℕ) → Status → Type 0
-ReadsNoDoc left after Done = ⊥
-ReadsNoDoc left after (TreeRefused fault) = ⊥
-ReadsNoDoc left after (DocRefused fault) =
-    Told left (λ b. IsRefusedDoc (take most_doc_read b) fault × (after ≡ Some (drop most_doc_read b)))
-ReadsNoDoc left after Usage = ⊥
-ReadsNoDoc left after (GaveUp side bound) = ⊥
-ReadsNoDoc left after ReadFault = Unit {0}
-ReadsNoDoc left after WriteFault = ⊥
-ReadsNoDoc left after NoMemory = Unit {0}
-ReadsNoDoc left after (No reason) = ⊥
-ReadsNoDoc left after NotBuilt = ⊥
-
--- the statuses that come with a text
-abbrev pub IsFinal : Status → Type 0
-IsFinal Done = Unit {0}
-IsFinal (TreeRefused fault) = ⊥
-IsFinal (DocRefused fault) = ⊥
-IsFinal Usage = ⊥
-IsFinal (GaveUp side bound) = ⊥
-IsFinal ReadFault = ⊥
-IsFinal WriteFault = ⊥
-IsFinal NoMemory = ⊥
-IsFinal (No reason) = Unit {0}
-IsFinal NotBuilt = ⊥
-
--- the text was written and its status came, or a front of it and a fault of writing
-abbrev pub WritesText : Status → List ℕ → Option (List ℕ) → Option (List ℕ) → Status → Type 0
-WritesText status text held now result =
-    ((result ≡ status) × Appends held now text) ⊎ ((result ≡ WriteFault) × AppendsFront held now text)
-
--- What a command has written that answers each document by a status and a text, and nothing for want of memory. `Answers status text` says
--- which answer it is; what the sink held before and after.
+-- What a command has written that answers by a status and a text, before and after on the sink: the whole text with its status, or a front of
+-- it and a fault of writing, or nothing for want of memory. `Answers status text` says which answer it is.
 abbrev pub Writes : (Status → List ℕ → Type 0) → Option (List ℕ) → Option (List ℕ) → Status → Type 0
-Writes Answers held now Done = (text : List ℕ) × Answers Done text × Appends held now text
-Writes Answers held now (TreeRefused fault) = ⊥
-Writes Answers held now (DocRefused fault) = ⊥
-Writes Answers held now Usage = ⊥
-Writes Answers held now (GaveUp side bound) = ⊥
-Writes Answers held now ReadFault = ⊥
-Writes Answers held now WriteFault = (status : Status) × (text : List ℕ) × Answers status text × AppendsFront held now text
-Writes Answers held now NoMemory = now ≡ held
-Writes Answers held now (No reason) = (text : List ℕ) × Answers (No reason) text × Appends held now text
-Writes Answers held now NotBuilt = ⊥
+Writes Answers held now status =
+    ((text : List ℕ) × Answers status text × Appends held now text)
+    ⊎ (((status ≡ WriteFault) × ((meant : Status) × (text : List ℕ) × Answers meant text × AppendsFront held now text))
+    ⊎ ((status ≡ NoMemory) × (now ≡ held)))
 
--- What such a command has read and written with this status: what was left of the source before and after, what the sink held before and after.
+-- What such a command has read and written: what was left of the source before and after, what the sink held before and after. Either no document
+-- came, or it was answered.
 abbrev pub Handles : (Document → Status → List ℕ → Type 0) → Option (List ℕ) → Option (List ℕ) → Option (List ℕ) → Option (List ℕ) → Status → Type 0
-Handles Answers left after held now Done = (D : Document) × ReadsDoc left after D × Writes (Answers D) held now Done
-Handles Answers left after held now (TreeRefused fault) = ⊥
-Handles Answers left after held now (DocRefused fault) = ReadsNoDoc left after (DocRefused fault) × (now ≡ held)
-Handles Answers left after held now Usage = ⊥
-Handles Answers left after held now (GaveUp side bound) = ⊥
-Handles Answers left after held now ReadFault = now ≡ held
-Handles Answers left after held now WriteFault = (D : Document) × ReadsDoc left after D × Writes (Answers D) held now WriteFault
-Handles Answers left after held now NoMemory = now ≡ held
-Handles Answers left after held now (No reason) = (D : Document) × ReadsDoc left after D × Writes (Answers D) held now (No reason)
-Handles Answers left after held now NotBuilt = ⊥
+Handles Answers left after held now status =
+    (ReadsNoDoc left after status × (now ≡ held))
+    ⊎ ((D : Document) × ReadsDoc left after D × Writes (Answers D) held now status)
 
 -- `rewrite` answers each document by its text in version 2
 abbrev pub IsRewritten : Document → Status → List ℕ → Type 0
@@ -156,15 +95,8 @@ IsReasonOn (Strip width) D reason = reason ≡ StripSheet
 -- `contours` answers a square's document that checks against its own tree by its contour text, and each other by the reason
 abbrev pub IsDrawn : Document → Status → List ℕ → Type 0
 IsDrawn D Done text = (D.sheet ≡ Square) × Checks D.tree D × IsContourText D.tree D.side D.points text
-IsDrawn D (TreeRefused fault) text = ⊥
-IsDrawn D (DocRefused fault) text = ⊥
-IsDrawn D Usage text = ⊥
-IsDrawn D (GaveUp side bound) text = ⊥
-IsDrawn D ReadFault text = ⊥
-IsDrawn D WriteFault text = ⊥
-IsDrawn D NoMemory text = ⊥
 IsDrawn D (No reason) text = IsReasonOn D.sheet D reason × (text ≡ no_text reason)
-IsDrawn D NotBuilt text = ⊥
+IsDrawn D status text = ⊥
 
 abbrev pub Draws : Option (List ℕ) → Option (List ℕ) → Option (List ℕ) → Option (List ℕ) → Status → Type 0
 Draws left after held now status = Handles IsDrawn left after held now status

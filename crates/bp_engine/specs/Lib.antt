@@ -1,9 +1,9 @@
-pub mod Words
+-- What `run` promises, which whoever relies on it reads: Run, and what it names: Designs, Checking, Documents, Reading (without IsRead), Texts.
+pub mod Run
+pub mod Designs
+pub mod Checking
+pub mod Documents
 pub mod Reading
 pub mod Texts
-pub mod Designs
+-- For inner calls alone.
 pub mod Outcomes
-pub mod Run
-pub mod Documents
-pub mod Checking
-pub mod Searched

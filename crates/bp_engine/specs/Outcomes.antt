@@ -1,13 +1,26 @@
--- How a document that is found is written: all of it, a front of it or nothing, and the status that then comes.
-use Rattle.std.specs.Prelude.{◌≡◌, ◌<◌, ◌≤◌, true}
+-- What inner calls ask for and give: what `design` is asked, an answer before it is written, and the verdict of a check.
+use Rattle.std.specs.Prelude.{◌≡◌, ◌⊎◌, ℕ, ◌<◌, ◌≤◌, List, Bool, true}
+use Rattle.std.specs.declared.option.Option.{Option}
 use Rattle.bp_base.specs.declared.point.Sheet.TheVariants.{Square}
+use Rattle.bp_base.specs.Causes.{Appends, AppendsFront}
 use Rattle.bp_base.specs.Limits.{most_budget}
 use Rattle.bp_metric.specs.Metric.{IsSheet}
 use Rattle.bp_document.specs.declared.document.Document.{Document}
+use Rattle.bp_check.specs.declared.fault.CheckFault.{CheckFault}
+use Rattle.bp_check.specs.declared.fault.CheckFault.TheVariants as fault
+use Rattle.bp_check.specs.declared.verdict.Verdict.{Verdict}
+use Rattle.bp_check.specs.declared.verdict.Verdict.TheVariants as verdict
+use Rattle.bp_words.specs.declared.words.Words.{Words}
+use Rattle.bp_words.specs.declared.words.Words.TheVariants.{Design}
+use Rattle.bp_words.specs.Words.{AreApart}
 use Rattle.bp_engine.specs.declared.design.Asked.{Asked}
 use Rattle.bp_engine.specs.declared.status.Status.{Status}
-use Rattle.bp_engine.specs.declared.status.Status.TheVariants.{Done, TreeRefused, DocRefused, Usage, GaveUp, ReadFault, WriteFault, NoMemory, No, NotBuilt}
+use Rattle.bp_engine.specs.declared.status.Status.TheVariants.{Done, DocRefused, GaveUp, ReadFault, WriteFault, NoMemory, No}
+use Rattle.bp_engine.specs.Checking.{yes_text}
 use Rattle.bp_engine.specs.Designs.{Sinks, WritesAll, WritesFront}
+use Rattle.bp_engine.specs.Documents.{no_text}
+use Rattle.bp_engine.specs.Reading.{ReadsDoc}
+use Rattle.bp_engine.specs.Run.{sheet_of}
 
 -- a strip's width and a budget are within their limits, and a drawing is asked for of a square alone
 pub record IsAsked (A : Asked) : Type 0 where
@@ -15,15 +28,46 @@ pub record IsAsked (A : Asked) : Type 0 where
   pub budget : A.budget ≤ most_budget
   pub square : A.draws ≡ true → A.sheet ≡ Square
 
--- what was written of D with this status: what the sinks held before and after
+-- the same of words
+abbrev pub HasRanges : Words → Type 0
+HasRanges (Design workers budget replay fold strip steady) = IsSheet (sheet_of strip) × (budget ≤ most_budget) × AreApart fold strip
+HasRanges w = Unit {0}
+
+-- which status a document's side and bound give
+abbrev pub Ends : Document → Status → Type 0
+Ends D Done = D.side ≤ D.bound
+Ends D (GaveUp side bound) = (D.bound < D.side) × (side ≡ D.side) × (bound ≡ D.bound)
+Ends D status = ⊥
+
+-- what was written of D: what the sinks held before and after
 abbrev pub WritesOutcome : Asked → Document → Sinks → Sinks → Status → Type 0
-WritesOutcome A D held now Done = (D.side ≤ D.bound) × WritesAll A D held now
-WritesOutcome A D held now (TreeRefused fault) = ⊥
-WritesOutcome A D held now (DocRefused fault) = ⊥
-WritesOutcome A D held now Usage = ⊥
-WritesOutcome A D held now (GaveUp side bound) = (D.bound < D.side) × (side ≡ D.side) × (bound ≡ D.bound) × WritesAll A D held now
-WritesOutcome A D held now ReadFault = ⊥
-WritesOutcome A D held now WriteFault = WritesFront A D held now
-WritesOutcome A D held now NoMemory = now ≡ held
-WritesOutcome A D held now (No reason) = ⊥
-WritesOutcome A D held now NotBuilt = ⊥
+WritesOutcome A D held now status =
+    (Ends D status × WritesAll A D held now)
+    ⊎ (((status ≡ WriteFault) × ((meant : Status) × Ends D meant × WritesFront A D held now))
+    ⊎ ((status ≡ NoMemory) × (now ≡ held)))
+
+-- the statuses that answer a document, and come behind their text
+abbrev pub IsFinal : Status → Type 0
+IsFinal Done = Unit {0}
+IsFinal (No reason) = Unit {0}
+IsFinal status = ⊥
+
+-- the text was written and its status came, or a front of it and a fault of writing
+abbrev pub WritesText : Status → List ℕ → Option (List ℕ) → Option (List ℕ) → Status → Type 0
+WritesText status text held now result =
+    ((result ≡ status) × Appends held now text) ⊎ ((result ≡ WriteFault) × AppendsFront held now text)
+
+-- this answers a document that was read to the end of the source
+abbrev pub AnswersDoc : (Document → Status → List ℕ → Type 0) → Option (List ℕ) → Option (List ℕ) → Status → List ℕ → Type 0
+AnswersDoc Answers left after status text = (D : Document) × ReadsDoc left after D × Answers D status text
+
+-- the answer to a verdict on a document of this side and bound
+abbrev pub IsAnswerTo : ℕ → ℕ → Verdict → Status → List ℕ → Type 0
+IsAnswerTo side bound verdict.Yes status text = (status ≡ Done) × (text ≡ yes_text side bound)
+IsAnswerTo side bound (verdict.No reason) status text = (status ≡ No reason) × (text ≡ no_text reason)
+
+-- the status of a check that has no verdict
+abbrev pub status_of : CheckFault → Status
+status_of (fault.Doc f) = DocRefused f
+status_of fault.Read = ReadFault
+status_of fault.NoMemory = NoMemory

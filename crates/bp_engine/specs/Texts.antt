@@ -1,4 +1,4 @@
--- What each status tells on the error output, and its number.
+-- What each status tells on the error output, its number, and which ones come behind something written.
 use Rattle.std.specs.Prelude.{ℕ, List, [], ◌++◌, ◌∷◌, codes, decimal}
 use Rattle.bp_tree.specs.declared.fault.TreeKind.{TreeKind}
 use Rattle.bp_tree.specs.declared.fault.TreeKind.TheVariants.{TooLong, BadJson, BadShape, BadByte, WordCount, BadName, BadLength, UnknownParent, RepeatedName, TooManyNodes, Empty, RootIsLeaf, TooManyLeaves}
@@ -56,3 +56,11 @@ number_of WriteFault = 5
 number_of NoMemory = 6
 number_of (No reason) = 7
 number_of NotBuilt = 8
+
+-- the statuses that come behind something written
+abbrev pub MayWrite : Status → Type 0
+MayWrite Done = Unit {0}
+MayWrite (GaveUp side bound) = Unit {0}
+MayWrite WriteFault = Unit {0}
+MayWrite (No reason) = Unit {0}
+MayWrite status = ⊥

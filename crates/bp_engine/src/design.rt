@@ -4,20 +4,18 @@ ghost use Rattle.bp_base.specs.Causes.{Rose};
 ghost use Rattle.bp_base.specs.Tree.{TreeValue};
 ghost use Rattle.bp_metric.specs.Stated.{CoversStated};
 ghost use Rattle.bp_tree.specs.Text.{TreeOf};
-ghost use Rattle.bp_engine.specs.Designs.{Designs, DesignsBytes, IsDesign, WritesDesign};
+ghost use Rattle.bp_design.specs.Design.{IsDesign};
+ghost use Rattle.bp_engine.specs.Designs.{Designs, WritesDesign};
 ghost use Rattle.bp_engine.specs.Outcomes.{IsAsked};
+ghost use Rattle.bp_engine.specs.Run.{IsSilent};
+ghost use Rattle.bp_engine.specs.Texts.{MayWrite};
 
 use crate::Status;
+use crate::given::given_tree;
 use crate::outcome::write_outcome;
-use crate::reading::{ReadError, read_all};
-use crate::searched::searched;
-use bp_base::{MOST_TREE_BYTES, NoMemory, Sheet, Sink, Source, Tree};
-use bp_check::law_of_checks;
+use bp_base::{NoMemory, Sheet, Sink, Source, Tree};
 use bp_document::Document;
-use bp_floor::{floor, law_of_floors};
 use bp_metric::Metric;
-use bp_opening::open;
-use bp_tree::{ReadTree, read_tree};
 use std::alloc::Global;
 
 // What is asked of a design: its sheet, how many branches its search may examine, and whether its regions are drawn.
@@ -39,37 +37,15 @@ pub fn design<T: Source, K: Sink, F: Sink>(
     requires { IsAsked asked }
     ensures designs { Designs asked (T.left source.old) (T.left source.new) (record { out = K.held out.old; fold = F.held fold.old }) (record { out = K.held out.new; fold = F.held fold.new }) result }
     ensures covered { (b : List ℕ) (U : TreeValue) → T.left source.old ≡ Some b → TreeOf b U → CoversStated U asked.sheet asked.budget → (side bound : ℕ) → result ≡ Status.GaveUp side bound → ⊥ }
-    ensures unwritten { (result ≡ Status.Done → ⊥) → ((side bound : ℕ) → result ≡ Status.GaveUp side bound → ⊥) → (result ≡ Status.WriteFault → ⊥) → (out.new ≡ out.old) × (fold.new ≡ fold.old) }
+    ensures unwritten { (MayWrite result → ⊥) → (out.new ≡ out.old) × (fold.new ≡ fold.old) }
     ensures undrawn { IsFalse asked.draws → fold.new ≡ fold.old }
+    ensures loud { IsSilent result → ⊥ }
     ensures read { result ≡ Status.ReadFault → Rose (T.faults source.old) (T.faults source.new) }
     ensures write { result ≡ Status.WriteFault → Rose (K.faults out.old) (K.faults out.new) ⊎ (IsTrue asked.draws × Rose (F.faults fold.old) (F.faults fold.new)) }
 {
-    match read_all(alloc, source, MOST_TREE_BYTES as usize + 1) {
-        Ok(bytes) => design_bytes(alloc, asked, &bytes, out, fold),
-        Err(ReadError::Failed) => Status::ReadFault,
-        Err(ReadError::NoMemory) => Status::NoMemory,
-    }
-}
-
-// The same for the bytes that were read.
-fn design_bytes<K: Sink, F: Sink>(
-    alloc: Global,
-    asked: Asked,
-    bytes: &[u8],
-    out: &mut K,
-    fold: &mut F,
-) -> Status
-    requires { IsAsked asked }
-    ensures designs { DesignsBytes bytes.now asked (record { out = K.held out.old; fold = F.held fold.old }) (record { out = K.held out.new; fold = F.held fold.new }) result }
-    ensures covered { (U : TreeValue) → TreeOf bytes.now U → CoversStated U asked.sheet asked.budget → (side bound : ℕ) → result ≡ Status.GaveUp side bound → ⊥ }
-    ensures unwritten { (result ≡ Status.Done → ⊥) → ((side bound : ℕ) → result ≡ Status.GaveUp side bound → ⊥) → (result ≡ Status.WriteFault → ⊥) → (out.new ≡ out.old) × (fold.new ≡ fold.old) }
-    ensures undrawn { IsFalse asked.draws → fold.new ≡ fold.old }
-    ensures write { result ≡ Status.WriteFault → Rose (K.faults out.old) (K.faults out.new) ⊎ (IsTrue asked.draws × Rose (F.faults fold.old) (F.faults fold.new)) }
-{
-    match read_tree(alloc, bytes) {
-        Ok(tree) => write_design(alloc, asked, tree, out, fold),
-        Err(ReadTree::Fault(fault)) => Status::TreeRefused(fault),
-        Err(ReadTree::NoMemory) => Status::NoMemory,
+    match given_tree(alloc, source) {
+        Ok(tree) => write_design(alloc, asked, &tree, out, fold),
+        Err(status) => status,
     }
 }
 
@@ -77,14 +53,17 @@ fn design_bytes<K: Sink, F: Sink>(
 fn write_design<K: Sink, F: Sink>(
     alloc: Global,
     asked: Asked,
-    tree: Tree,
+    tree: &Tree,
     out: &mut K,
     fold: &mut F,
 ) -> Status
     requires { IsAsked asked }
-    ensures designs { WritesDesign tree asked (record { out = K.held out.old; fold = F.held fold.old }) (record { out = K.held out.new; fold = F.held fold.new }) result }
-    ensures unwritten { (result ≡ Status.Done → ⊥) → ((side bound : ℕ) → result ≡ Status.GaveUp side bound → ⊥) → (result ≡ Status.WriteFault → ⊥) → (out.new ≡ out.old) × (fold.new ≡ fold.old) }
+    ensures designs { WritesDesign tree.now asked (record { out = K.held out.old; fold = F.held fold.old }) (record { out = K.held out.new; fold = F.held fold.new }) result }
+    ensures covered { CoversStated tree.now asked.sheet asked.budget → (side bound : ℕ) → result ≡ Status.GaveUp side bound → ⊥ }
+    ensures unwritten { (MayWrite result → ⊥) → (out.new ≡ out.old) × (fold.new ≡ fold.old) }
     ensures undrawn { IsFalse asked.draws → fold.new ≡ fold.old }
+    ensures loud { IsSilent result → ⊥ }
+    ensures no_read { result ≡ Status.ReadFault → ⊥ }
     ensures write { result ≡ Status.WriteFault → Rose (K.faults out.old) (K.faults out.new) ⊎ (IsTrue asked.draws × Rose (F.faults fold.old) (F.faults fold.new)) }
 {
     match designed(alloc, asked, tree) {
@@ -93,26 +72,10 @@ fn write_design<K: Sink, F: Sink>(
     }
 }
 
-// The tree's document: the opening where it meets the floor, or else what a search finds.
-fn designed(alloc: Global, asked: Asked, tree: Tree) -> Result<Document, NoMemory>
+fn designed(alloc: Global, asked: Asked, tree: &Tree) -> Result<Document, NoMemory>
     requires { IsAsked asked }
-    ensures { IfOk result (λ D. IsDesign tree asked.sheet asked.budget D) }
+    ensures { IfOk result (λ D. IsDesign tree.now asked.sheet asked.budget D) }
 {
-    let metric = Metric::on(alloc, &tree, asked.sheet)?;
-    let opening = open(alloc, &metric)?;
-    let floor = floor(alloc, &metric)?;
-    law_of_floors(&metric);
-    law_of_checks(&metric);
-    if opening.side > floor.side {
-        return searched(alloc, tree, &metric, opening, floor, asked.budget);
-    }
-    Ok(Document {
-        tree,
-        side: opening.side,
-        bound: opening.side,
-        points: opening.points,
-        floor,
-        proof: None,
-        sheet: asked.sheet,
-    })
+    let metric = Metric::on(alloc, tree, asked.sheet)?;
+    bp_design::design(alloc, &metric, asked.budget)
 }

@@ -1,5 +1,5 @@
 // `contours`: the loops along the regions of a document's edges.
-ghost use Rattle.std.specs.Prelude.{◌≡◌, ◌<◌, ◌≤◌, ◌++◌, ◌∷◌, [], codes, decimal, map, IfOk, OnOk};
+ghost use Rattle.std.specs.Prelude.{◌≡◌, ◌<◌, ◌≤◌, ◌++◌, ◌∷◌, [], codes, decimal, map, IfOk, IfErr, OnOk};
 ghost use Rattle.std.specs.List.{flat_map};
 ghost use Rattle.bp_base.specs.declared.point.Sheet.TheVariants.{Square as square};
 ghost use Rattle.bp_base.specs.Causes.{Rose};
@@ -9,10 +9,15 @@ ghost use Rattle.bp_document.specs.declared.document.Document.{Document as AnyDo
 ghost use Rattle.bp_document.specs.Ranges.{IsDocument};
 ghost use Rattle.bp_metric.specs.Valid.{Valid};
 ghost use Rattle.bp_contour.specs.declared.loops.Loop.{Loop as AnyLoop};
-ghost use Rattle.bp_engine.specs.Documents.{Draws, IsContourText, IsDrawn, IsReasonOn, Writes, edge_text, loop_line, no_text, point_words, reason_text};
+ghost use Rattle.bp_engine.specs.Documents.{Draws, IsContourText, IsDrawn, IsReasonOn, edge_text, loop_line, no_text, point_words, reason_text};
+ghost use Rattle.bp_engine.specs.Outcomes.{AnswersDoc, IsFinal};
+ghost use Rattle.bp_engine.specs.Reading.{ReadsNoDoc};
+ghost use Rattle.bp_engine.specs.Run.{IsSilent};
+ghost use Rattle.bp_engine.specs.Texts.{MayWrite};
 
 use crate::Status;
-use crate::answering::{Answer, read_doc, write_answer};
+use crate::answering::{Answer, write_answered};
+use crate::given::given_document;
 use bp_base::{NoMemory, Placement, Point, Sequence, Sheet, Sink, Source, Tree};
 use bp_check::{Reason, Verdict, check};
 use bp_contour::{Loop, contours};
@@ -25,31 +30,32 @@ use std::alloc::Global;
 // Reads the document, and writes its contours, or why it has none.
 pub fn draw<D: Source, K: Sink>(alloc: Global, source: &mut D, out: &mut K) -> Status
     ensures draws { Draws (D.left source.old) (D.left source.new) (K.held out.old) (K.held out.new) result }
-    ensures unwritten { (result ≡ Status.Done → ⊥) → (result ≡ Status.WriteFault → ⊥) → ((r : Reason) → result ≡ Status.No r → ⊥) → out.new ≡ out.old }
+    ensures unwritten { (MayWrite result → ⊥) → out.new ≡ out.old }
+    ensures loud { IsSilent result → ⊥ }
     ensures read { result ≡ Status.ReadFault → Rose (D.faults source.old) (D.faults source.new) }
     ensures write { result ≡ Status.WriteFault → Rose (K.faults out.old) (K.faults out.new) }
 {
-    match read_doc(alloc, source) {
-        Ok(document) => write_drawn(alloc, document, out),
-        Err(status) => status,
-    }
+    let answered = drawn_from(alloc, source);
+    write_answered(answered, out)
 }
 
-fn write_drawn<K: Sink>(alloc: Global, document: Document, out: &mut K) -> Status
-    requires { IsDocument document }
-    ensures writes { Writes (IsDrawn document) (K.held out.old) (K.held out.new) result }
-    ensures unwritten { (result ≡ Status.Done → ⊥) → (result ≡ Status.WriteFault → ⊥) → ((r : Reason) → result ≡ Status.No r → ⊥) → out.new ≡ out.old }
-    ensures write { result ≡ Status.WriteFault → Rose (K.faults out.old) (K.faults out.new) }
+fn drawn_from<D: Source>(alloc: Global, source: &mut D) -> Result<Answer, Status>
+    ensures answers { IfOk result (λ a. AnswersDoc IsDrawn (D.left source.old) (D.left source.new) a.status a.text.items) }
+    ensures ends { IfOk result (λ a. IsFinal a.status) }
+    ensures none { IfErr result (λ s. ReadsNoDoc (D.left source.old) (D.left source.new) s) }
+    ensures failed { IfErr result (λ s. s ≡ Status.ReadFault → Rose (D.faults source.old) (D.faults source.new)) }
 {
+    let document = given_document(alloc, source)?;
     match drawn(alloc, document) {
-        Ok(answer) => write_answer(&answer, out),
-        Err(NoMemory) => Status::NoMemory,
+        Ok(answer) => Ok(answer),
+        Err(NoMemory) => Err(Status::NoMemory),
     }
 }
 
 fn drawn(alloc: Global, document: Document) -> Result<Answer, NoMemory>
     requires { IsDocument document }
-    ensures { IfOk result (λ a. IsDrawn document a.status a.text.items) }
+    ensures answer { IfOk result (λ a. IsDrawn document a.status a.text.items) }
+    ensures ends { IfOk result (λ a. IsFinal a.status) }
 {
     match document.sheet {
         Sheet::Strip { .. } => refused(alloc, Reason::StripSheet),
@@ -60,7 +66,8 @@ fn drawn(alloc: Global, document: Document) -> Result<Answer, NoMemory>
 fn drawn_on_square(alloc: Global, document: Document) -> Result<Answer, NoMemory>
     requires ranges { IsDocument document }
     requires square { document.sheet ≡ square }
-    ensures { IfOk result (λ a. IsDrawn document a.status a.text.items) }
+    ensures answer { IfOk result (λ a. IsDrawn document a.status a.text.items) }
+    ensures ends { IfOk result (λ a. IsFinal a.status) }
 {
     match check(alloc, &document.tree, &document)? {
         Verdict::Yes => {
@@ -75,7 +82,8 @@ fn drawn_on_square(alloc: Global, document: Document) -> Result<Answer, NoMemory
 }
 
 fn refused(alloc: Global, reason: Reason) -> Result<Answer, NoMemory>
-    ensures { (D : AnyDocument) → IsReasonOn D.sheet D reason → IfOk result (λ a. IsDrawn D a.status a.text.items) }
+    ensures answer { (D : AnyDocument) → IsReasonOn D.sheet D reason → IfOk result (λ a. IsDrawn D a.status a.text.items) }
+    ensures ends { IfOk result (λ a. IsFinal a.status) }
 {
     let text = no_text(alloc, reason)?;
     Ok(Answer {

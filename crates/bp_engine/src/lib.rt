@@ -1,4 +1,4 @@
-//! The commands: what their words ask for, how a run ends, and the run itself.
+//! The commands: how a run ends, and the run itself.
 #![tactic(auto)]
 
 mod answering;
@@ -7,20 +7,14 @@ mod command;
 mod design;
 mod drawing;
 mod folding;
-mod options;
+mod given;
 mod outcome;
 mod reading;
 mod rewriting;
-mod searched;
 mod status;
 mod tell;
 mod text;
-mod weighing;
-mod words;
 
+pub use bp_words::{Words, words_of};
 pub use command::run;
 pub use status::Status;
-pub use words::{Words, one_meaning, words_of};
-
-#[cfg(test)]
-mod tests;

@@ -7,6 +7,7 @@ ghost use Rattle.bp_document.specs.Text.{doc_text};
 ghost use Rattle.bp_metric.specs.Valid.{Valid};
 ghost use Rattle.bp_engine.specs.Designs.{AreDisjoint, IsFoldTextOf};
 ghost use Rattle.bp_engine.specs.Outcomes.{WritesOutcome};
+ghost use Rattle.bp_engine.specs.Texts.{MayWrite};
 
 use crate::Status;
 use crate::design::Asked;
@@ -35,7 +36,8 @@ pub fn write_outcome<K: Sink, F: Sink>(
     requires ranges { IsDocument document }
     requires valid { IsTrue asked.draws → Valid document.tree square 1 document.side document.points }
     ensures writes { WritesOutcome asked document (record { out = K.held out.old; fold = F.held fold.old }) (record { out = K.held out.new; fold = F.held fold.new }) result }
-    ensures unwritten { (result ≡ Status.Done → ⊥) → ((side bound : ℕ) → result ≡ Status.GaveUp side bound → ⊥) → (result ≡ Status.WriteFault → ⊥) → (out.new ≡ out.old) × (fold.new ≡ fold.old) }
+    ensures ends { MayWrite result ⊎ (result ≡ Status.NoMemory) }
+    ensures unwritten { (MayWrite result → ⊥) → (out.new ≡ out.old) × (fold.new ≡ fold.old) }
     ensures undrawn { IsFalse asked.draws → fold.new ≡ fold.old }
     ensures write { result ≡ Status.WriteFault → Rose (K.faults out.old) (K.faults out.new) ⊎ (IsTrue asked.draws × Rose (F.faults fold.old) (F.faults fold.new)) }
 {
@@ -50,6 +52,7 @@ pub fn write_outcome<K: Sink, F: Sink>(
 fn status_of(side: u64, bound: u64) -> Status
     ensures done { side ≤ bound → result ≡ Status.Done }
     ensures gave_up { bound < side → result ≡ Status.GaveUp side bound }
+    ensures ends { MayWrite result }
 {
     if bound < side {
         Status::GaveUp { side, bound }

@@ -2,7 +2,8 @@
 ghost use Rattle.std.specs.Prelude.{◌≡◌, ◌+◌, ◌<◌, ◌≤◌, ◌^◌, length, IfOk, Err};
 ghost use Rattle.bp_base.specs.Causes.{Rose};
 ghost use Rattle.bp_engine.specs.declared.reading.ReadError.TheVariants.{NoMemory};
-ghost use Rattle.bp_engine.specs.Reading.{HasRead, IsRead};
+ghost use Rattle.bp_check.specs.Streams.{HasRead};
+ghost use Rattle.bp_engine.specs.Reading.{IsRead};
 
 use bp_base::{Failed, Source};
 use std::alloc::{AllocError, Global};

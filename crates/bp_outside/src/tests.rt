@@ -156,7 +156,14 @@ impl Env for Line {
 
 #[test]
 fn words_after_the_name(rt: HostRuntime) -> Result<(), Fail> {
-    let words = words(&(Line, rt.alloc()))?;
+    let words = match words(&(Line, rt.alloc())) {
+        Ok(words) => words,
+        // nothing else but memory can be wanting here
+        Err(error) => {
+            assert!(rt; error.kind() == ErrorKind::OutOfMemory);
+            return Ok(());
+        }
+    };
     assert_eq!(rt; words.len(), 2);
     assert!(rt; words[0].as_str() == "made");
     assert!(rt; words[1].as_str() == "4");

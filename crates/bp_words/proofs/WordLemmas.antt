@@ -1,5 +1,5 @@
 -- Words that ask for one command ask for nothing else.
-use Rattle.std.proofs.Common.{◌≡◌, ◌⊎◌, inl, inr, ℕ, List, [], ◌∷◌, codes, Bool, true, false, ◌||◌, length, slice_index_or, Option, None, Some, is_some, sym, ◌∙◌, ap, subst, arith, refl}
+use Rattle.std.proofs.Common.{◌≡◌, ◌⊎◌, inl, inr, ℕ, List, [], ◌∷◌, codes, true, false, length, Option, None, Some, is_some, sym, ◌∙◌, ap, subst, arith, refl}
 use Rattle.std.specs.Str.{bytes_eq}
 use Rattle.bp_base.specs.Limits.{most_width}
 use Rattle.std.proofs.lemmas.Slice.Eq.{bytes_eq-Decides}
@@ -7,7 +7,7 @@ use Rattle.bp_words.specs.declared.words.MirrorKind.{MirrorKind}
 use Rattle.bp_words.specs.declared.words.MirrorKind.TheVariants.{Book, Diagonal}
 use Rattle.bp_words.specs.declared.words.Words.{Words}
 use Rattle.bp_words.specs.declared.words.Words.TheVariants.{Design, Check, Contours, Made, Trial, Rewrite, Revise, Pieces, Solve, Verify, Picture, Help, Version}
-use Rattle.bp_words.specs.Words.{AreApart, AreUnique, AsksDesign, AsksFile, AsksMade, AsksRevise, AsksSolve, HasFile, HasMirror, HasOptional, IsAlone, IsGiven, IsWords, mirror_word, word_at}
+use Rattle.bp_words.specs.Words.{AreApart, AreUnique, AsksDesign, AsksMade, AsksRevise, AsksSolve, HasFile, HasMirror, HasOptional, IsAlone, IsGiven, IsWords, mirror_word, word_at}
 use Rattle.bp_words.proofs.OptionLemmas.{same_number, unique_options, one_default, one_optional, one_file}
 
 -- the command's first word, or its other one

@@ -1,9 +1,8 @@
 -- Ranges and defaults, and worked command lines.
-use Rattle.std.proofs.Common.{◌≡◌, ℕ, List, [], ◌∷◌, codes, Option, None, Some, refl, inl, inr}
+use Rattle.std.proofs.Common.{◌≡◌, [], ◌∷◌, codes, refl, inl, inr}
 use Rattle.bp_base.specs.Limits.{most_budget, most_hands, most_width}
-use Rattle.bp_words.specs.declared.words.MirrorKind.TheVariants.{Book}
-use Rattle.bp_words.specs.declared.words.Words.TheVariants.{Check, Contours, Help, Made, Solve}
-use Rattle.bp_words.specs.Words.{AreApart, IsWords, least_made, most_made, most_seed, most_solve_budget, most_steady, usual_budget, usual_hands, usual_solve_budget}
+use Rattle.bp_words.specs.declared.words.Words.TheVariants.{Contours, Help}
+use Rattle.bp_words.specs.Words.{IsWords, least_made, most_made, most_seed, most_solve_budget, most_steady, usual_budget, usual_hands, usual_solve_budget}
 
 defaults : (usual_hands ≡ 4) × (usual_budget ≡ 50000) × (usual_solve_budget ≡ 100000)
 defaults = (refl, refl, refl)

@@ -1,19 +1,15 @@
 use Rattle.std.proofs.Common.{inl, inr, refl}
-use Rattle.bp_engine.specs.Checking.{IsChecked}
-use Rattle.bp_engine.proofs.Checked.{no_tree_handled, no_usage_handled, no_usage_without}
+use Rattle.bp_engine.proofs.BytesRead.{no_tree_quiet}
 use Rattle.bp_engine.proofs.checking.check_both.Goals as goal
 
 pub returns-in-Ok-clause-checks : goal.returns-in-Ok-clause-checks
 returns-in-Ok-clause-checks g c = inr (c.in-Ok.tree, c.in-Ok.ensures.reads, c.check_against.ensures.checks)
 
-pub returns-in-Ok-clause-no_usage : goal.returns-in-Ok-clause-no_usage
-returns-in-Ok-clause-no_usage g c = λ is. no_usage_handled (IsChecked c.in-Ok.tree) _ _ _ _ c.check_against.result c.check_against.ensures.checks is
-
 pub returns-in-Ok-clause-order : goal.returns-in-Ok-clause-order
 returns-in-Ok-clause-order g c = inr (c.in-Ok.tree, c.in-Ok.ensures.reads)
 
 pub returns-in-Ok-clause-unread : goal.returns-in-Ok-clause-unread
-returns-in-Ok-clause-unread g c = λ f is. absurd (no_tree_handled (IsChecked c.in-Ok.tree) _ _ _ _ c.check_against.result f c.check_against.ensures.checks is)
+returns-in-Ok-clause-unread g c = λ f is. absurd (c.check_against.ensures.no_tree f is)
 
 pub returns-in-Ok-clause-read : goal.returns-in-Ok-clause-read
 returns-in-Ok-clause-read g c = λ is. inr (c.in-Ok.tree, c.in-Ok.ensures.reads, c.check_against.ensures.read is)
@@ -21,11 +17,11 @@ returns-in-Ok-clause-read g c = λ is. inr (c.in-Ok.tree, c.in-Ok.ensures.reads,
 pub returns-in-Err-clause-checks : goal.returns-in-Err-clause-checks
 returns-in-Err-clause-checks g c = inl (c.in-Err.ensures.none, refl)
 
-pub returns-in-Err-clause-no_usage : goal.returns-in-Err-clause-no_usage
-returns-in-Err-clause-no_usage g c = λ is. no_usage_without _ _ c.in-Err.status c.in-Err.ensures.none is
-
 pub returns-in-Err-clause-order : goal.returns-in-Err-clause-order
 returns-in-Err-clause-order g c = inl refl
+
+pub returns-in-Err-clause-loud : goal.returns-in-Err-clause-loud
+returns-in-Err-clause-loud g c = no_tree_quiet _ _ c.in-Err.status c.in-Err.ensures.none
 
 pub returns-in-Err-clause-read : goal.returns-in-Err-clause-read
 returns-in-Err-clause-read g c = λ is. inl (c.in-Err.ensures.failed is, refl)

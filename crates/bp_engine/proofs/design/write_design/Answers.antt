@@ -1,11 +1,24 @@
-use Rattle.bp_engine.proofs.Outcomes.{drawable, of_tree}
+use Rattle.std.proofs.Common.{inr, refl}
+use Rattle.bp_engine.proofs.Outcomes.{drawable, not_covered, of_tree, outcome_loud, outcome_read}
 use Rattle.bp_engine.proofs.design.write_design.Goals as goal
 
 pub write_outcome-requires-clause-ranges : goal.write_outcome-requires-clause-ranges
-write_outcome-requires-clause-ranges g c = c.in-Ok.ensures.ranges
+write_outcome-requires-clause-ranges g c = c.in-Ok.ensures.proved.ranges
 
 pub write_outcome-requires-clause-valid : goal.write_outcome-requires-clause-valid
-write_outcome-requires-clause-valid g c = drawable c.args.tree c.args.asked c.in-Ok.document c.in-Ok.ensures c.requires.square
+write_outcome-requires-clause-valid g c = drawable c.args.tree.now c.args.asked c.in-Ok.document c.in-Ok.ensures c.requires.square
 
 pub returns-in-Ok-clause-designs : goal.returns-in-Ok-clause-designs
-returns-in-Ok-clause-designs g c = of_tree c.args.tree c.args.asked c.in-Ok.document _ _ c.write_outcome.result c.in-Ok.ensures c.write_outcome.ensures.writes
+returns-in-Ok-clause-designs g c = of_tree c.args.tree.now c.args.asked c.in-Ok.document _ _ c.write_outcome.result c.in-Ok.ensures c.write_outcome.ensures.writes
+
+pub returns-in-Ok-clause-covered : goal.returns-in-Ok-clause-covered
+returns-in-Ok-clause-covered g c = not_covered c.args.tree.now c.args.asked c.in-Ok.document _ _ c.write_outcome.result c.in-Ok.ensures c.write_outcome.ensures.writes
+
+pub returns-in-Ok-clause-loud : goal.returns-in-Ok-clause-loud
+returns-in-Ok-clause-loud g c = outcome_loud c.write_outcome.result c.write_outcome.ensures.ends
+
+pub returns-in-Ok-clause-no_read : goal.returns-in-Ok-clause-no_read
+returns-in-Ok-clause-no_read g c = outcome_read c.write_outcome.result c.write_outcome.ensures.ends
+
+pub returns-in-Err-clause-designs : goal.returns-in-Err-clause-designs
+returns-in-Err-clause-designs g c = inr (inr (refl, refl))

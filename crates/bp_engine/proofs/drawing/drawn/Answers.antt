@@ -4,6 +4,6 @@ use Rattle.bp_check.specs.declared.verdict.Reason.TheVariants.{StripSheet}
 use Rattle.bp_engine.specs.Documents.{IsReasonOn}
 use Rattle.bp_engine.proofs.drawing.drawn.Goals as goal
 
-pub returns-in-Strip : goal.returns-in-Strip
-returns-in-Strip c =
-    c.refused.ensures c.args.document (subst (λ (G : Sheet). IsReasonOn G c.args.document StripSheet) (sym c.in-Strip.is) refl)
+pub returns-in-Strip-clause-answer : goal.returns-in-Strip-clause-answer
+returns-in-Strip-clause-answer c =
+    c.refused.ensures.answer c.args.document (subst (λ (G : Sheet). IsReasonOn G c.args.document StripSheet) (sym c.in-Strip.is) refl)

@@ -1,5 +1,5 @@
 use Rattle.std.proofs.Common.{◌≤◌, length}
-use Rattle.bp_engine.specs.Reading.{HasRead}
+use Rattle.bp_check.specs.Streams.{HasRead}
 use Rattle.bp_engine.proofs.reading.read_all.Given as goal
 
 abbrev pub invariant-loop : goal.invariant-loop

@@ -1,4 +1,4 @@
-use Rattle.std.proofs.Common.{◌≡◌, List, ℕ, sym, ◌∙◌}
+use Rattle.std.proofs.Common.{◌∙◌}
 use Rattle.bp_words.proofs.WordLemmas.{no_mirror}
 use Rattle.bp_words.proofs.words.mirror_of.Goals as goal
 

@@ -1,4 +1,4 @@
-use Rattle.std.proofs.Common.{◌≡◌, inl, inr, sym, ◌∙◌}
+use Rattle.std.proofs.Common.{inl, inr, sym, ◌∙◌}
 use Rattle.bp_words.proofs.WordLemmas.{no_solve, not_solved}
 use Rattle.bp_words.proofs.words.solve_of.Goals as goal
 use Rattle.bp_words.proofs.words.solve_of.Goals.{then-is_some-2, else-is_some-2}

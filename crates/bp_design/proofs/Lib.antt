@@ -1,0 +1,9 @@
+mod Weights
+mod SameNodes
+mod ShownCounts
+mod NodeParts
+mod FoundNodes
+mod Covered
+mod Searches
+mod GivenUp
+mod Designs

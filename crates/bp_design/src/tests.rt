@@ -1,0 +1,59 @@
+ghost use Rattle.std.specs.Prelude.{◌≤◌};
+ghost use Rattle.bp_base.specs.Limits.{most_budget};
+ghost use Rattle.bp_metric.specs.Metric.{IsSheet};
+
+use crate::design;
+use bp_base::{Failed, MemSink, Sheet};
+use bp_document::write_document;
+use bp_metric::Metric;
+use bp_tree::read_tree;
+use std::alloc::Global;
+use std::test::Fail;
+
+// The text of the design of a tree with this budget.
+fn designed(alloc: Global, tree: &[u8], sheet: Sheet, budget: u64) -> Result<Vec<u8>, Fail>
+    requires sheet { IsSheet sheet }
+    requires budget { budget ≤ most_budget }
+{
+    let Ok(tree) = read_tree(alloc, tree) else {
+        return Err(Fail::from("no tree"));
+    };
+    let metric = Metric::on(alloc, &tree, sheet)?;
+    let document = design(alloc, &metric, budget)?;
+    let mut sink = MemSink::new(alloc, 16_777_216, 4096, Vec::new(alloc))?;
+    match write_document(&document, &mut sink) {
+        Ok(()) => Ok(sink.bytes),
+        Err(Failed) => Err(Fail::from("no text")),
+    }
+}
+
+const STAR: &[u8] = b"c p 2\nc q 2\nc r 2\nc s 1\nc t 1\n";
+
+const FOUR: &[u8] = b"c p 1\nc q 1\nc r 1\nc s 1\n";
+
+const MET: &[u8] =
+    b"boxpleat 2\nsheet square\nedges 4\nedge c p 1\nedge c q 1\nedge c r 1\nedge c s 1\nside 2\nbound 2\npoint p 0 0\npoint q 0 2\npoint r 2 0\npoint s 2 2\nfloor 2 2 1 2 3 4\nproof none\nend\n";
+
+const SPENT: &[u8] =
+    b"boxpleat 2\nsheet square\nedges 5\nedge c p 2\nedge c q 2\nedge c r 2\nedge c s 1\nedge c t 1\nside 5\nbound 4\npoint p 0 0\npoint q 0 4\npoint r 4 0\npoint s 3 3\npoint t 3 5\nfloor 2 4 1 2 3 4 5\nproof 2\n0 split 1 2\n1 open x 1 2\nend\n";
+
+const WHOLE: &[u8] =
+    b"boxpleat 2\nsheet square\nedges 5\nedge c p 2\nedge c q 2\nedge c r 2\nedge c s 1\nedge c t 1\nside 5\nbound 5\npoint p 0 0\npoint q 0 4\npoint r 4 0\npoint s 3 3\npoint t 3 5\nfloor 2 4 1 2 3 4 5\nproof 257\n0 split 1 2\n1 split 1 3\n";
+
+const STRIP: &[u8] =
+    b"boxpleat 2\nsheet strip 4\nedges 5\nedge c p 2\nedge c q 2\nedge c r 2\nedge c s 1\nedge c t 1\nside 5\nbound 5\npoint p 0 0\npoint q 4 0\npoint r 0 4\npoint s 3 3\npoint t 3 5\nfloor 4 4 1 2 3\nproof ";
+
+#[test]
+fn stars_designed(rt: HostRuntime) -> Result<(), Fail> {
+    let alloc = rt.alloc();
+    let strip = Sheet::Strip { width: 4 };
+    let met = designed(alloc, FOUR, Sheet::Square, 1)?;
+    assert_eq!(rt; met.as_slice(), MET);
+    let spent = designed(alloc, STAR, Sheet::Square, 1)?;
+    assert_eq!(rt; spent.as_slice(), SPENT);
+    let whole = designed(alloc, STAR, Sheet::Square, 50_000)?;
+    assert!(rt; whole.starts_with(WHOLE));
+    let on_strip = designed(alloc, STAR, strip, 200_000)?;
+    assert!(rt; on_strip.starts_with(STRIP));
+    Ok(())
+}
