@@ -5,17 +5,17 @@
 ghost use Rattle.std.specs.Prelude.{◌≡◌, ◌≤◌, ◌<◌, ◌*◌, ◌-◌, ◌+◌, ◌/◌, ◌++◌, ℕ, IsTrue, IfOk, OnOk, length};
 ghost use Rattle.bp_base.specs.Path.{IsPairOf};
 ghost use Rattle.bp_base.specs.Tree.{leaf_count};
-ghost use Rattle.bp_metric.specs.Samples.{is_sample, letters};
 ghost use Rattle.bp_core.specs.Underway.{IsUnderway};
 ghost use Rattle.bp_pool.specs.Shares.{IsTaskOf};
 ghost use Rattle.bp_warm.specs.Warm.{pair_count};
 
-use bp_base::{Choice, Name, NoMemory, Pair, Path, Refutation, Settled, Step, Task, Tree};
+use bp_base::{Choice, NoMemory, Pair, Path, Refutation, Settled, Step, Task};
 use bp_floor::floor;
 use bp_join::join;
 use bp_metric::Metric;
 use bp_opening::open;
 use bp_pool::{Hand, Take};
+use bp_samples::tree;
 use bp_stack::{begin, search};
 use bp_warm::Warm;
 use std::alloc::Global;
@@ -23,30 +23,6 @@ use std::io;
 use std::process::ExitCode;
 use std::rt::Runtime;
 use std::time::Instant;
-
-// The names a, b, c, ..
-fn names(alloc: Global, count: usize) -> Result<Vec<Name>, NoMemory>
-    requires { count ≤ 26 }
-    ensures { IfOk result (λ v. v.items ≡ letters count) }
-{
-    let mut names = Vec::new(alloc);
-    for number in 0..count {
-        match Name::new(&[97 + number as u8]) {
-            Some(name) => names.push(name)?,
-            None => return Err(NoMemory),
-        }
-    }
-    Ok(names)
-}
-
-fn tree(alloc: Global, parents: &[u64], lengths: &[u64]) -> Result<Tree, NoMemory>
-    requires { IsTrue (is_sample parents.now lengths.now) }
-{
-    let names = names(alloc, parents.len())?;
-    let parents = Vec::from_slice(alloc, parents)?;
-    let lengths = Vec::from_slice(alloc, lengths)?;
-    Ok(Tree::of(parents, lengths, names))
-}
 
 // Adds the steps whose pairs are pairs of leaves and that close no cycle, and answers how many were added.
 fn go_down(metric: &Metric, warm: &mut Warm, steps: &[(u64, u64, Choice)]) -> u64

@@ -1,43 +1,19 @@
 // Worked searches, each from the opening.
-ghost use Rattle.std.specs.Prelude.{◌≡◌, ◌≤◌, ℕ, IsTrue, IfOk};
+ghost use Rattle.std.specs.Prelude.{◌≤◌, ℕ, IfOk};
 ghost use Rattle.bp_metric.specs.Floor.{IsFloorSide};
 ghost use Rattle.bp_metric.specs.Metric.{IsSheet};
-ghost use Rattle.bp_metric.specs.Samples.{is_sample, letters};
 ghost use Rattle.bp_core.specs.Underway.{IsUnderway};
 
 use crate::{begin, search};
-use bp_base::{Name, NoMemory, Point, Settled, Sheet, Tree};
+use bp_base::{NoMemory, Point, Settled, Sheet, Tree};
 use bp_core::law_of_left;
 use bp_floor::floor;
 use bp_metric::Metric;
 use bp_opening::open;
+use bp_samples::tree;
 use std::alloc::Global;
 use std::process::Abort;
 use std::test::Fail;
-
-// The names a, b, c, ..
-fn names(alloc: Global, count: usize) -> Result<Vec<Name>, NoMemory>
-    requires { count ≤ 26 }
-    ensures { IfOk result (λ v. v.items ≡ letters count) }
-{
-    let mut names = Vec::new(alloc);
-    for number in 0..count {
-        match Name::new(&[97 + number as u8]) {
-            Some(name) => names.push(name)?,
-            None => return Err(NoMemory),
-        }
-    }
-    Ok(names)
-}
-
-fn tree(alloc: Global, parents: &[u64], lengths: &[u64]) -> Result<Tree, NoMemory>
-    requires { IsTrue (is_sample parents.now lengths.now) }
-{
-    let names = names(alloc, parents.len())?;
-    let parents = Vec::from_slice(alloc, parents)?;
-    let lengths = Vec::from_slice(alloc, lengths)?;
-    Ok(Tree::of(parents, lengths, names))
-}
 
 // The beginning of the metric's search.
 fn begun(alloc: Global, metric: &Metric) -> Result<Settled, NoMemory>
