@@ -1,9 +1,8 @@
 -- Bytes without a tree have a first fault: it can't be that they have neither. What leads to a contradiction either way may be taken as decided.
-use Rattle.std.proofs.Common.{◌≡◌, ◌≢◌, inl, inr, ℕ, zero, suc, ◌+◌, ◌-◌, ◌<◌, ◌≤◌, Bool, true, false, List, [], ◌∷◌, ◌++◌, length, get_or, take, map, All, Ok, Err, refl, sym, ◌∙◌, ap, subst, arith}
+use Rattle.std.proofs.Common.{◌≡◌, inl, inr, ℕ, zero, suc, ◌+◌, ◌-◌, ◌<◌, ◌≤◌, Bool, true, false, List, [], ◌∷◌, ◌++◌, length, get_or, take, map, All, Ok, Err, refl, sym, ◌∙◌, ap, subst, arith}
 use Rattle.std.specs.Prelude.{Contains, IsTrue}
 use Rattle.std.proofs.lemmas.Bool.{cases_lt}
 use Rattle.std.proofs.lemmas.List.{append-nil, get_or_default, map_push, nil_from_length, take_all, take_more}
-use Rattle.serde_json.specs.Data.{Data}
 use Rattle.bp_base.specs.Limits.{most_nodes, most_leaves, most_tree_bytes}
 use Rattle.bp_base.specs.Name.{IsName}
 use Rattle.bp_base.specs.Tree.{TreeValue, leaf_count}
@@ -14,8 +13,8 @@ use Rattle.bp_tree.specs.declared.fault.TreeKind.TheVariants.{TooLong, BadJson, 
 use Rattle.bp_tree.specs.declared.fault.TreeFault.{TreeFault}
 use Rattle.bp_tree.specs.Lines.{lines_of, content, words_of, rows, word, is_text_byte}
 use Rattle.bp_tree.specs.Edges.{HasEdges, IsGrowing, IsLength, edge_words, root_children}
-use Rattle.bp_tree.specs.Json.{is_json, IsValue, HasElements, HasNoValue}
-use Rattle.bp_tree.specs.Text.{GivesEdges, GivesIn, TreeOf}
+use Rattle.bp_tree.specs.Json.{is_json, HasElements, HasNoValue}
+use Rattle.bp_tree.specs.Text.{GivesEdges, GivesIn}
 use Rattle.bp_tree.specs.Faults.{HasKind, IsKind, HasElementKind, IsElementKind, IsFirstFault, IsFirstElementFault, IsFirstIn, IsJsonFault, IsFull, IsTreeFault, IsNoTree, names_in, names_before, line_at, order}
 use Rattle.bp_tree.specs.Growing.{no_nodes, AddsEdge}
 use Rattle.bp_tree.specs.Calls.{with_node, IsPlaceFor, IsEdgeLine, GrewFrom}
