@@ -1,11 +1,11 @@
 -- What the facts that aren't sure give, and facts and orders one after another.
-use Rattle.std.proofs.Common.{◌≡◌, ℕ, ◌+◌, ◌<◌, Bool, true, false, if◌then◌else◌, IsTrue, List, [], ◌∷◌, ◌++◌, length, take, map, get_or, refl, sym, ◌∙◌, ap, subst}
+use Rattle.std.proofs.Common.{◌≡◌, ℕ, ◌+◌, ◌<◌, Bool, true, false, if◌then◌else◌, IsTrue, List, [], ◌∷◌, ◌++◌, length, take, get_or, refl, sym, ◌∙◌, ap, subst}
 use Rattle.std.proofs.lemmas.List.{append-nil, take_more, map-append}
 use Rattle.bp_metric.specs.Valid.{IsPair}
 use Rattle.bp_arrangement.specs.declared.fact.Fact.{Fact}
 use Rattle.bp_arrangement.specs.Facts.{denial}
 use Rattle.bp_lemmas.specs.Systems.{Lasting, System}
-use Rattle.bp_lemmas.specs.Knowledge.{Knowledge, with_fact, with_facts, is_sure, unsure, IsBroken}
+use Rattle.bp_lemmas.specs.Knowledge.{Knowledge, with_fact, with_facts, is_sure, unsure}
 use Rattle.bp_lemmas.specs.Hints.{Outcome, broken, now, bad, by_last, leant, leant_by}
 use Rattle.bp_lemmas.specs.Trees.{tree_system}
 use Rattle.bp_lemmas.proofs.Trees.{pair_pair}

@@ -1,9 +1,8 @@
 -- What breaks a knowledge that is given a bound or an order more: it was broken, or what is given crosses what is known. What is broken
 -- stays broken.
-use Rattle.std.proofs.Common.{◌≡◌, ◌⊎◌, ℕ, ◌+◌, ◌-◌, ◌*◌, ◌≤◌, ◌==◌, ◌&&◌, ◌||◌, max, min, Bool, true, false, if◌then◌else◌, IsTrue, List, [], ◌∷◌, refl, sym, subst, arith, inl, inr}
+use Rattle.std.proofs.Common.{◌⊎◌, ℕ, ◌+◌, ◌-◌, ◌*◌, ◌≤◌, ◌==◌, ◌&&◌, ◌||◌, max, min, Bool, true, false, if◌then◌else◌, IsTrue, List, [], ◌∷◌, refl, subst, arith, inl, inr}
 use Rattle.std.proofs.lemmas.Bool.{and_from, or_cases, cases_lt, eqb-true, eq-eqb, false≢true}
 use Rattle.bp_base.specs.declared.point.Axis.{Axis}
-use Rattle.bp_base.specs.declared.point.Axis.TheVariants.{X, Y}
 use Rattle.bp_arrangement.specs.declared.fact.Fact.{Fact}
 use Rattle.bp_arrangement.specs.declared.fact.Fact.TheVariants.{Before, NotBefore, Least, Below}
 use Rattle.bp_arrangement.specs.declared.fact.Hint.{Hint}
@@ -11,7 +10,7 @@ use Rattle.bp_arrangement.specs.Facts.{denial}
 use Rattle.bp_lemmas.specs.Systems.{Order, apart, is_order, Lasting, System}
 use Rattle.bp_lemmas.specs.Knowledge.{Knowledge, raised, lowered, with_order, without_order, pushed, with_fact, with_facts, unsure, IsBroken, crossed, both, circular}
 use Rattle.bp_lemmas.proofs.Told.{same_order}
-use Rattle.bp_lemmas.specs.Hints.{Outcome, broken, now, bad, by_last, push_known, leant, leant_by, no_order, knows_order, pair_pushed, pair_settled, Then, Closes}
+use Rattle.bp_lemmas.specs.Hints.{Outcome, broken, now, bad, by_last, push_known, leant, no_order, knows_order, pair_settled, Closes}
 
 max_grows : (x code : ℕ) (b : Bool) → x ≤ (if b then max x code else x)
 max_grows x code true = omega arith

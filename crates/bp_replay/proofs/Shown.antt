@@ -1,5 +1,5 @@
 -- Tables that show a knowledge, after each kind of write.
-use Rattle.std.proofs.Common.{◌≡◌, ◌≢◌, ◌⊎◌, ℕ, ◌+◌, ◌*◌, ◌<◌, ◌≤◌, ◌==◌, ◌&&◌, ◌||◌, max, min, Bool, true, false, nat_le, not, if◌then◌else◌, IsTrue, List, [], ◌∷◌, All, length, get_or, set, refl, sym, ◌∙◌, ap, subst, arith, inl, inr}
+use Rattle.std.proofs.Common.{◌≡◌, ◌≢◌, ◌⊎◌, ℕ, ◌<◌, ◌≤◌, ◌==◌, ◌&&◌, ◌||◌, max, min, Bool, true, false, nat_le, not, if◌then◌else◌, IsTrue, List, [], ◌∷◌, All, length, get_or, set, refl, sym, ◌∙◌, ap, subst, arith, inl, inr}
 use Rattle.std.proofs.lemmas.Bool.{cases_Bool, cases_eq, cases_lt, and_parts, and_from, or_cases, eqb-true, eq-eqb, ne_eqb, le-leb, false≢true}
 use Rattle.std.proofs.lemmas.List.{get_or-set_same, get_or-set_other, length-set}
 use Rattle.bp_base.specs.declared.point.Axis.{Axis}
@@ -12,7 +12,7 @@ use Rattle.bp_arrangement.specs.declared.fact.Fact.{Fact}
 use Rattle.bp_arrangement.specs.declared.fact.Fact.TheVariants.{NotBefore}
 use Rattle.bp_lemmas.specs.Hints.{no_order}
 use Rattle.bp_lemmas.specs.Standing.{IsNamed}
-use Rattle.bp_lemmas.specs.Systems.{Order, apart, is_order, System}
+use Rattle.bp_lemmas.specs.Systems.{Order, is_order, System}
 use Rattle.bp_lemmas.specs.Knowledge.{Knowledge, raised, lowered, with_order, without_order, IsBroken, crossed, both, circular}
 use Rattle.bp_lemmas.specs.Trees.{number, axis_of, leaf_of, is_leaf, are_two_leaves, order_of, tree_system}
 use Rattle.bp_lemmas.proofs.Told.{same_order}
@@ -51,7 +51,6 @@ order_same T a axis k l i j same_axis first second =
 module _ (T : TreeValue) (xs : List ℕ) (value : Order → Bool) (axis : Axis) (i j row : ℕ) (long : length xs ≡ places) (iw : i < rows) (jw : j < rows)
     (shows : (a : Axis) (k l : ℕ) → k < rows → l < rows → has (get_or xs (number a k) 0) l ≡ value (order_of T a k l))
     (written : (l : ℕ) → l < 64 → has row l ≡ ((l == j) || has (get_or xs (number axis i) 0) l)) where
-
   in_row : (a : Axis) (k l : ℕ) → k < rows → l < rows → number a k ≡ number axis i → has row l ≡ (is_order (order_of T a k l) (order_of T axis i j) || value (order_of T a k l))
   in_row a k l kw lw here =
       let same_axis : a ≡ axis = sym (axis_number a k) ∙ ap axis_of here ∙ axis_number axis i in

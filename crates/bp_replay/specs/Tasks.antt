@@ -1,5 +1,5 @@
 -- What lemmas are to prove: that no side below the bound serves the tree on the sheet. The corner and the heads of the swaps arrange it.
-use Rattle.std.specs.Prelude.{ℕ, ◌^◌, List}
+use Rattle.std.specs.Prelude.{ℕ, List}
 use Rattle.bp_base.specs.declared.path.Pair.{Pair}
 use Rattle.bp_base.specs.declared.point.Sheet.{Sheet}
 use Rattle.bp_base.specs.Tree.{TreeValue}

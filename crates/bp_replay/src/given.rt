@@ -1,9 +1,13 @@
-ghost use Rattle.std.specs.Prelude.{◌≡◌, ℕ, ◌≤◌, List};
+ghost use Rattle.std.specs.Prelude.{◌≡◌, ◌<◌, ◌≤◌, ◌↔◌, All, IsTrue, length, slice_index_or};
 ghost use Rattle.std.specs.List.{list_any};
 ghost use Rattle.bp_base.specs.Tree.{IsLeaf, IsTree};
 ghost use Rattle.bp_metric.specs.Distance.{leaf_dist, most_distance};
-ghost use Rattle.bp_lemmas.specs.Trees.{is_corner_pair, is_head as is_head_of, is_leaf as is_leaf_of};
+ghost use Rattle.bp_lemmas.specs.Trees.{are_two_leaves, is_corner_pair, is_head as is_head_of, is_leaf as is_leaf_of, is_pair as is_pair_of};
+ghost use Rattle.bp_lemmas.specs.Standing.{IsHint, IsNamed};
+ghost use Rattle.bp_base.specs.declared.path.Pair.{Pair as AnyPair};
+ghost use Rattle.bp_replay.specs.Tasks.{system_of};
 
+use bp_arrangement::{Fact, Hint};
 use bp_base::{Pair, Sheet};
 use bp_metric::Metric;
 use std::marker::Model;
@@ -75,5 +79,93 @@ impl Given {
         ensures { result ≡ self.now.corner }
     {
         self.corner
+    }
+
+    #[inline]
+    pub fn bound(&self) -> u64
+        ensures { result ≡ self.now.bound }
+    {
+        self.bound
+    }
+
+    // How many heads of swaps there are.
+    pub fn heads(&self) -> usize
+        ensures { result ≡ length self.now.heads }
+    {
+        self.heads.len()
+    }
+
+    pub fn head(&self, at: usize) -> Pair
+        requires { at < length self.now.heads }
+        ensures { (d : AnyPair) → result ≡ slice_index_or self.now.heads at d }
+    {
+        self.heads[at]
+    }
+
+    #[inline]
+    pub fn are_two(&self, i: u64, j: u64) -> bool
+        ensures { result ≡ are_two_leaves self.now.tree i j }
+    {
+        self.is_leaf(i) && self.is_leaf(j) && i != j
+    }
+
+    #[inline]
+    pub fn is_pair(&self, pair: Pair) -> bool
+        ensures { result ≡ is_pair_of self.now.tree pair.i pair.j }
+    {
+        let leaves = self.metric.leaves();
+        pair.i >= 1 && pair.i < pair.j && pair.j <= leaves
+    }
+
+    // Whether the fact names what is there.
+    #[tactic(auto, unfolding(bp_lemmas::specs::Trees::tree_system))]
+    pub fn names(&self, fact: Fact) -> bool
+        ensures { IsTrue result ↔ IsNamed (system_of self.now) fact }
+    {
+        match fact {
+            Fact::Before {
+                axis: _,
+                first,
+                second,
+            } => self.are_two(first, second),
+            Fact::NotBefore {
+                axis: _,
+                first,
+                second,
+            } => self.are_two(first, second),
+            Fact::Least {
+                axis: _,
+                leaf,
+                code: _,
+            } => self.is_leaf(leaf),
+            Fact::Below {
+                axis: _,
+                leaf,
+                code: _,
+            } => self.is_leaf(leaf),
+        }
+    }
+
+    // Whether the hint names a pair that is there, or one of so many earlier lemmas.
+    #[tactic(auto, unfolding(bp_lemmas::specs::Trees::tree_system))]
+    pub fn names_hint(&self, count: u64, hint: Hint) -> bool
+        ensures { IsTrue result ↔ IsHint (system_of self.now) count hint }
+    {
+        match hint {
+            Hint::Pair { pair } => self.is_pair(pair),
+            Hint::Lemma { number } => number >= 1 && number <= count,
+        }
+    }
+
+    pub fn names_all(&self, facts: &[Fact]) -> bool
+        ensures { IsTrue result ↔ All (IsNamed (system_of self.now)) facts.now }
+    {
+        facts.iter().all(|fact| self.names(*fact))
+    }
+
+    pub fn names_hints(&self, count: u64, hints: &[Hint]) -> bool
+        ensures { IsTrue result ↔ All (IsHint (system_of self.now) count) hints.now }
+    {
+        hints.iter().all(|hint| self.names_hint(count, *hint))
     }
 }

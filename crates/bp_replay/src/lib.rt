@@ -5,6 +5,10 @@ mod given;
 mod hints;
 mod known;
 mod packed;
+mod replay;
+mod root;
 mod sets;
 mod store;
 mod unsure;
+
+pub use replay::Replay;

@@ -1,4 +1,4 @@
-use Rattle.std.proofs.Common.{ℕ, ◌<◌, sym, subst, arith}
+use Rattle.std.proofs.Common.{ℕ, sym, subst, arith}
 use Rattle.bp_arrangement.specs.declared.fact.Fact.{Fact}
 use Rattle.bp_lemmas.specs.Knowledge.{raised, lowered, with_order, with_fact}
 use Rattle.bp_lemmas.specs.Standing.{IsNamed}

@@ -25,7 +25,7 @@ returns c = λ t K keeps.
     let upper : get_or S.upper c.place-to.result 0 ≡ K.upper v = ap (λ (p : ℕ). get_or S.upper p 0) c.place-to.ensures.number ∙ kept.0.upper v (number_within axis c.args.second c.requires.second) in
     let M = raised K v (K.lower u) in
     let one : Keeps t c.raise.new.self M =
-        subst (λ (code : ℕ). Keeps t c.raise.new.self (raised K v code)) lower
-        (subst (λ (p : ℕ). Keeps t c.raise.new.self (raised K p (get_or S.lower c.place-from.result 0))) c.place-to.ensures.number (c.raise.ensures t K keeps)) in
+    subst (λ (code : ℕ). Keeps t c.raise.new.self (raised K v code)) lower
+    (subst (λ (p : ℕ). Keeps t c.raise.new.self (raised K p (get_or S.lower c.place-from.result 0))) c.place-to.ensures.number (c.raise.ensures t K keeps)) in
     subst (λ (code : ℕ). Keeps t c.lessen.new.self (lowered M u code)) upper
     (subst (λ (p : ℕ). Keeps t c.lessen.new.self (lowered M p (get_or S.upper c.place-to.result 0))) c.place-from.ensures.number (c.lessen.ensures t M one))

@@ -33,7 +33,7 @@ returns c = λ K keeps.
     let high : c.saturating_sub-high.result ≡ K.upper v - 2 * d = omega (arith, c.saturating_sub-high.ensures, upper, c.dist-far.ensures.value) in
     let M = raised K v (K.lower u + 2 * d) in
     let one : Keeps t c.raise.new.self M =
-        subst (λ (code : ℕ). Keeps t c.raise.new.self (raised K v code)) low
-        (subst (λ (p : ℕ). Keeps t c.raise.new.self (raised K p c.saturating_add-low.result)) c.place-to.ensures.number (c.raise.ensures t K keeps)) in
+    subst (λ (code : ℕ). Keeps t c.raise.new.self (raised K v code)) low
+    (subst (λ (p : ℕ). Keeps t c.raise.new.self (raised K p c.saturating_add-low.result)) c.place-to.ensures.number (c.raise.ensures t K keeps)) in
     subst (λ (code : ℕ). Keeps t c.lessen.new.self (lowered M u code)) high
     (subst (λ (p : ℕ). Keeps t c.lessen.new.self (lowered M p c.saturating_sub-high.result)) c.place-from.ensures.number (c.lessen.ensures t M one))

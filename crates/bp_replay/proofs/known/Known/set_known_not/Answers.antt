@@ -16,6 +16,6 @@ pub returns : goal.returns
 returns c = λ K keeps.
     let fails = c.args.self.now.fails in
     let written : (l : ℕ) → l < 64 → has c.with.result l ≡ ((l == c.args.second) || has (get_or fails (number c.args.axis c.args.first) 0) l) =
-        subst (λ (p : ℕ). (l : ℕ) → l < 64 → has c.with.result l ≡ ((l == c.args.second) || has (get_or fails p 0) l)) c.place-at.ensures.number c.with.ensures in
+    subst (λ (p : ℕ). (l : ℕ) → l < 64 → has c.with.result l ≡ ((l == c.args.second) || has (get_or fails p 0) l)) c.place-at.ensures.number c.with.ensures in
     rw c.place-at.ensures.number
     (deny_written c.args.given.now c.args.self.now K c.args.axis c.args.first c.args.second (omega (arith, c.requires.two.0, c.requires.few)) (omega (arith, c.requires.two.1, c.requires.few)) keeps c.with.result c.if-self.false (sym c.if-is_known.ensures) written)

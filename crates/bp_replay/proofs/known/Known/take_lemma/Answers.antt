@@ -1,13 +1,11 @@
-use Rattle.std.proofs.Common.{List, true, false, refl, sym, subst}
+use Rattle.std.proofs.Common.{true, false, refl, subst}
 use Rattle.bp_arrangement.specs.declared.fact.Fact.{Fact}
 use Rattle.bp_lemmas.specs.Knowledge.{with_fact, unsure}
-use Rattle.bp_lemmas.specs.Hints.{now, bad, no_order}
-use Rattle.bp_lemmas.specs.Standing.{IsNamed}
+use Rattle.bp_lemmas.specs.Hints.{bad}
 use Rattle.bp_replay.specs.declared.unsure.Unsure.{Unsure}
 use Rattle.bp_replay.specs.Tasks.{system_of}
-use Rattle.bp_replay.specs.Kept.{IsLeft, IsNamedOne, Keeps}
+use Rattle.bp_replay.specs.Kept.{IsLeft, Keeps}
 use Rattle.bp_replay.specs.Stored.{facts_in}
-use Rattle.bp_replay.proofs.Shown.{named_orders}
 use Rattle.bp_replay.proofs.Applied.{comes_nothing, comes_single, comes_more}
 use Rattle.bp_replay.proofs.known.Known.take_lemma.Goals as goal
 

@@ -1,5 +1,4 @@
 use Rattle.std.proofs.Common.{sym}
-use Rattle.bp_lemmas.specs.Knowledge.{Knowledge}
 use Rattle.bp_lemmas.specs.Hints.{pair_pushed, pair_settled}
 use Rattle.bp_replay.specs.Tasks.{system_of}
 use Rattle.bp_replay.proofs.Breaks.{pair_ends}

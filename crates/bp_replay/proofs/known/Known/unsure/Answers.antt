@@ -14,7 +14,7 @@ pub is_sure-requires-clause-named : goal.is_sure-requires-clause-named
 is_sure-requires-clause-named c =
     let facts = c.args.facts.now in
     let within : c.loop-k.k < length facts = omega (arith, c.loop-k-test.true) in
-    let mapped : c.loop-k.k < length (facts_in facts) = omega (arith, within, length-map facts) in
+    let mapped : c.loop-k.k < length (facts_in facts) = omega (arith, within, length-map facts fact_of) in
     subst (IsNamed (system_of c.args.given.now)) (get_or-map fact_of facts c.loop-k.k _ (Least X 0 0) within ∙ sym c.unpacked-fact.ensures) (c.requires.named c.loop-k.k (Least X 0 0) mapped)
 
 pub loop-k-preserved : goal.loop-k-preserved
@@ -22,9 +22,9 @@ loop-k-preserved c =
     let t = c.args.given.now in
     let facts = c.args.facts.now in
     let within : c.loop-k.k < length facts = omega (arith, c.loop-k-test.true) in
-    let mapped : c.loop-k.k < length (facts_in facts) = omega (arith, within, length-map facts) in
+    let mapped : c.loop-k.k < length (facts_in facts) = omega (arith, within, length-map facts fact_of) in
     let named : IsNamed (system_of t) c.unpacked-fact.result =
-        subst (IsNamed (system_of t)) (get_or-map fact_of facts c.loop-k.k _ (Least X 0 0) within ∙ sym c.unpacked-fact.ensures) (c.requires.named c.loop-k.k (Least X 0 0) mapped) in (
+    subst (IsNamed (system_of t)) (get_or-map fact_of facts c.loop-k.k _ (Least X 0 0) within ∙ sym c.unpacked-fact.ensures) (c.requires.named c.loop-k.k (Least X 0 0) mapped) in (
       λ K keeps whole.
           subst (IsLeft c.counted-left.result) (sym (unsure_step (system_of t) K facts c.loop-k.k _ c.is_sure.result c.unpacked-fact.result within c.unpacked-fact.ensures (c.is_sure.ensures K keeps whole)))
           (c.counted-left.ensures.left (unsure (system_of t) K (facts_in (take c.loop-k.k facts))) (c.loop-k.invariant.0 K keeps whole)),
