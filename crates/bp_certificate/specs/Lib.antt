@@ -1,3 +1,6 @@
 pub mod Lines
 pub mod Text
 pub mod Ranges
+pub mod Words
+pub mod Places
+pub mod Faults

@@ -2,12 +2,19 @@
 #![tactic(auto)]
 
 mod certificate;
+mod fact_form;
+mod lemma_form;
 mod limits;
 mod line;
+mod mark;
 mod write;
 
 pub use certificate::{Certificate, CertificateHead, Lemma, Lemmas, Plan};
+pub use lemma_form::{read_corner, read_lemma, read_lemma_count, read_swap};
 pub use limits::{
     MOST_FACTS, MOST_HINTS, MOST_LEMMAS, MOST_LINE_BYTES, MOST_SWAP_PAIRS, MOST_SWAPS,
 };
 pub use write::write_certificate;
+
+#[cfg(test)]
+mod tests;

@@ -32,7 +32,7 @@ pub use form::{field_of, number_within, sheet_form};
 pub use head::Head;
 pub use laws::{law_of_long_lines, law_of_one_answer, law_of_sizes};
 pub use line::{axis_word, put_end, put_field, put_floor, put_keyword, put_sheet, put_two_words};
-pub use node_line::{NodeKind, NodeLine, axis_of};
+pub use node_line::{NodeKind, NodeLine, axis_of, pair_of};
 pub use points::put_points;
 pub use read::read_document;
 pub use room::Room;

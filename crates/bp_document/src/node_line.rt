@@ -100,8 +100,8 @@ pub fn axis_of(word: &[u8]) -> Option<Axis>
     None
 }
 
-// The pair of two words.
-fn pair_of(bytes: &[u8]) -> Option<Pair>
+/// The pair of two words behind the first space.
+pub fn pair_of(bytes: &[u8]) -> Option<Pair>
     ensures { ReadsPair (words_behind bytes.now) result }
 {
     let (i, rest) = next_word(bytes)?;

@@ -2,8 +2,8 @@ use Rattle.std.proofs.Common.{◌++◌, ◌∷◌, []}
 use Rattle.std.specs.Prelude.{codes}
 use Rattle.std.specs.List.{flat_map}
 use Rattle.bp_text.proofs.Puts.{puts_first, puts_exit, puts_last, writes_more}
-use Rattle.bp_document.specs.Lines.{line, word}
-use Rattle.bp_certificate.specs.Lines.{swap_line, pair_words}
+use Rattle.bp_document.specs.Lines.{word}
+use Rattle.bp_certificate.specs.Lines.{pair_words}
 use Rattle.bp_certificate.proofs.Parts.{after, swap_parts}
 use Rattle.bp_certificate.proofs.line.put_swap.Goals as goal
 

@@ -1,4 +1,3 @@
-use Rattle.std.proofs.Common.{◌∙◌}
 use Rattle.bp_text.proofs.Puts.{loop_exit}
 use Rattle.bp_certificate.specs.Lines.{lemma_line}
 use Rattle.bp_certificate.proofs.Parts.{puts_at}

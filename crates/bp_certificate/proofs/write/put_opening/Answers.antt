@@ -1,8 +1,7 @@
-use Rattle.std.proofs.Common.{◌++◌, ◌∷◌, [], refl}
-use Rattle.std.specs.Prelude.{codes, decimal}
+use Rattle.std.proofs.Common.{◌++◌, refl}
 use Rattle.bp_text.proofs.Puts.{puts_first, puts_exit, puts_last, writes_more}
 use Rattle.bp_document.specs.Forms.{version_line}
-use Rattle.bp_document.specs.Lines.{line, sheet_line}
+use Rattle.bp_document.specs.Lines.{sheet_line}
 use Rattle.bp_certificate.specs.Lines.{mirror_line}
 use Rattle.bp_certificate.specs.Text.{opening_text}
 use Rattle.bp_certificate.proofs.Parts.{three}

@@ -1,4 +1,4 @@
-use Rattle.std.proofs.Common.{◌++◌, length, refl, Some}
+use Rattle.std.proofs.Common.{◌++◌, Some}
 use Rattle.std.specs.List.{flat_map}
 use Rattle.bp_text.proofs.Puts.{puts_first, puts_exit, puts_last, writes_more}
 use Rattle.bp_certificate.specs.Lines.{corner_line, count_line, lemma_line}

@@ -1,4 +1,4 @@
-use Rattle.std.proofs.Common.{length, ap, ◌++◌, refl, sym}
+use Rattle.std.proofs.Common.{refl}
 use Rattle.std.specs.List.{flat_map}
 use Rattle.bp_text.proofs.Puts.{puts_first, puts_last}
 use Rattle.bp_certificate.specs.Lines.{swap_line}
