@@ -61,6 +61,33 @@ impl Examiner {
         Ok(Examiner { order, warm, at })
     }
 
+    /// Judges the path against the bound, in grid units, and gives the kind of its record and its placement where it is solved. The
+    /// children of a split are put into `children`, which is empty before, and after NoMemory too. The metric is that of `open`.
+    pub fn judge(
+        &mut self,
+        alloc: Global,
+        metric: &Metric,
+        path: &Path,
+        bound: u64,
+        children: &mut Sequence<Task>,
+    ) -> Result<(RecordKind, Option<Placement>), NoMemory>
+        requires metric { metric.now ≡ self.old }
+        requires branch { IsBranch metric.now.tree path.now }
+        requires bound { bound ≤ most_number }
+        requires empty { children.old ≡ [] }
+        ensures metric { self.new ≡ self.old }
+        ensures found { IfOk result (λ r. IsFound metric.now.tree metric.now.sheet path.now bound r.0 r.1) }
+        ensures children { IfOk result (λ r. children.new ≡ tasks_of metric.now.tree metric.now.sheet path.now bound r.0) }
+        ensures valid { IfOk result (λ r. MatchOption r.1 (1 ≤ 1) (λ p. Valid metric.now.tree metric.now.sheet 1 p.side p.points)) }
+        ensures err { OnErr result (children.new ≡ []) }
+    {
+        let _leaves = metric.leaves();
+        go_to(&mut self.warm, &mut self.at, metric, path)?;
+        let least = self.warm.least();
+        let outcome = self.order.judge(metric, least, bound);
+        found(alloc, metric, least, path, bound, outcome, children)
+    }
+
     /// Examines the task against the lesser of its bound and the known side, which are in grid units. Its record has the ticket; the
     /// children of a split are put into `children`, which is empty before, and after NoMemory too. The metric is that of `open`.
     pub fn examine(
@@ -81,13 +108,9 @@ impl Examiner {
         ensures valid { IfOk result (λ turn. MatchOption turn.placement (1 ≤ 1) (λ p. Valid metric.now.tree metric.now.sheet 1 p.side p.points)) }
         ensures err { OnErr result (children.new ≡ []) }
     {
-        let _leaves = metric.leaves();
         let Task { path, bound: given } = task;
         let bound = known.min(given);
-        go_to(&mut self.warm, &mut self.at, metric, &path)?;
-        let least = self.warm.least();
-        let outcome = self.order.judge(metric, least, bound);
-        let (kind, placement) = found(alloc, metric, least, &path, bound, outcome, children)?;
+        let (kind, placement) = self.judge(alloc, metric, &path, bound, children)?;
         let record = Record {
             path,
             kind,
