@@ -5,12 +5,12 @@ mod Corners
 mod Directed
 mod Exact
 mod Followed
-mod Known
+pub mod Known
 mod Listing
 mod Plane
-mod Scaled
+pub mod Scaled
 mod Stretches
-mod Tables
+pub mod Tables
 mod Unique
 mod Touring
 mod Worked

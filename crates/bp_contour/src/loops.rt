@@ -4,8 +4,8 @@ ghost use Rattle.bp_base.specs.Tree.{IsEdge};
 ghost use Rattle.bp_regions.specs.Cells.{Reach};
 ghost use Rattle.bp_regions.specs.Contours.{AreContours};
 
-use crate::cells::Cells;
 use crate::runs::runs_of;
+use crate::table::Cells;
 use crate::tour::loops_of;
 use bp_base::{Axis, NoMemory, Point, Sequence};
 use bp_regions::Regions;

@@ -4,7 +4,7 @@ ghost use Rattle.bp_contour.specs.Listed.{AreRuns, AreRising, AreRunsUpTo, Follo
 ghost use Rattle.bp_contour.specs.Table.{Holds};
 ghost use Rattle.bp_contour.specs.Ways.{Begins, RunBy, number_of};
 
-use crate::cells::Cells;
+use crate::table::Cells;
 use crate::way::{Way, left_of, number_of, right_of};
 use bp_base::{NoMemory, Point};
 use std::alloc::Global;

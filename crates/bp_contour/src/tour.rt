@@ -5,9 +5,9 @@ ghost use Rattle.bp_contour.specs.Listed.{AreRuns, Follows};
 ghost use Rattle.bp_contour.specs.Table.{Holds, grid_point};
 ghost use Rattle.bp_contour.specs.Tours.{AreClosed, AreOnGrid, AreRound, IsRound, mark_at, start_of};
 
-use crate::cells::Cells;
 use crate::loops::Loop;
 use crate::runs::{Run, after};
+use crate::table::Cells;
 use bp_base::{NoMemory, Point, Sequence};
 use std::alloc::Global;
 

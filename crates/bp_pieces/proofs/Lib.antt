@@ -1,3 +1,4 @@
-mod Joined
 mod Counted
+mod Joined
+mod Labelled
 mod Unique

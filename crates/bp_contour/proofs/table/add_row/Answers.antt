@@ -1,7 +1,7 @@
 use Rattle.std.proofs.Common.{arith}
 use Rattle.bp_base.specs.declared.point.Axis.TheVariants.{X}
 use Rattle.bp_contour.proofs.Tables.{cut_small, row_more}
-use Rattle.bp_contour.proofs.cells.add_row.Goals as goal
+use Rattle.bp_contour.proofs.table.add_row.Goals as goal
 
 pub reach-requires-clause-cell : goal.reach-requires-clause-cell
 reach-requires-clause-cell c =

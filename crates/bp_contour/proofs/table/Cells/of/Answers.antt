@@ -2,7 +2,7 @@ use Rattle.std.proofs.Common.{◌≡◌, ℕ, arith, refl, subst}
 use Rattle.bp_base.specs.declared.point.Axis.TheVariants.{Y}
 use Rattle.bp_contour.specs.Table.{AreRows}
 use Rattle.bp_contour.proofs.Tables.{cut_small, rows_more, table_done}
-use Rattle.bp_contour.proofs.cells.Cells.of.Goals as goal
+use Rattle.bp_contour.proofs.table.Cells.of.Goals as goal
 
 pub add_row-requires-clause-row : goal.add_row-requires-clause-row
 add_row-requires-clause-row c =

@@ -1,7 +1,7 @@
 use Rattle.std.proofs.Common.{arith}
 use Rattle.bp_contour.proofs.Tables.{read_bit, read_none}
-use Rattle.bp_contour.proofs.cells.Cells.holds.Goals as goal
-use Rattle.bp_contour.proofs.cells.Cells.holds.Goals.{else-x-self-via-then-x-self+else-y-self, else-x-self-via-else-x-self}
+use Rattle.bp_contour.proofs.table.Cells.holds.Goals as goal
+use Rattle.bp_contour.proofs.table.Cells.holds.Goals.{else-x-self-via-then-x-self+else-y-self, else-x-self-via-else-x-self}
 
 pub returns-then-y-self : goal.returns-then-y-self
 returns-then-y-self c =

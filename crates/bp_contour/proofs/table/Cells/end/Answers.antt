@@ -4,7 +4,7 @@ use Rattle.bp_base.specs.declared.point.Point.{Point}
 use Rattle.bp_contour.specs.Table.{Holds, IsWhole}
 use Rattle.bp_contour.specs.Ways.{Reaches}
 use Rattle.bp_contour.proofs.Ahead.{can_step, less_room, reaches_more, reaches_none, reached_end, room_ahead}
-use Rattle.bp_contour.proofs.cells.Cells.end.Goals as goal
+use Rattle.bp_contour.proofs.table.Cells.end.Goals as goal
 
 pub loop-way-init : goal.loop-way-init
 loop-way-init c = reaches_none (Holds c.args.self.now) c.args.way c.args.at

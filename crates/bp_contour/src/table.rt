@@ -1,5 +1,5 @@
 // A table of cells, one for each pair of neighbouring cuts of both axes.
-ghost use Rattle.std.specs.Prelude.{◌≡◌, ◌+◌, ◌-◌, ◌^◌, ◌<◌, ◌↔◌, length, IsTrue, IfOk, OnOk};
+ghost use Rattle.std.specs.Prelude.{◌≡◌, ◌+◌, ◌-◌, ◌*◌, ◌^◌, ◌<◌, ◌↔◌, length, IsTrue, IfOk, OnOk};
 ghost use Rattle.bp_base.specs.declared.point.Axis.TheVariants.{X, Y};
 ghost use Rattle.bp_base.specs.Tree.{IsEdge};
 ghost use Rattle.bp_regions.specs.Runs.{Below, Beside};
@@ -13,7 +13,7 @@ use bp_regions::Regions;
 use std::alloc::Global;
 use std::marker::Model;
 
-// Cells are named by column and row, both from 0 on.
+/// Which cells between neighbouring cuts an edge reaches. Cells are named by column and row, both from 0 on.
 #[derive(Drop)]
 pub struct Cells {
     width: u64,
@@ -33,7 +33,7 @@ impl Model for Cells {
 }
 
 impl Cells {
-    // Which cells between cuts Reach of the edge holds.
+    /// The table of Reach of the edge. NoMemory where memory runs out.
     pub fn of(
         alloc: Global,
         regions: &Regions,
@@ -58,6 +58,7 @@ impl Cells {
         })
     }
 
+    /// The number of columns.
     pub fn width(&self) -> u64
         ensures value { result ≡ self.now.width }
         ensures small { result + 1 < 2 ^ 64 }
@@ -65,6 +66,7 @@ impl Cells {
         self.width
     }
 
+    /// The number of rows.
     pub fn height(&self) -> u64
         ensures value { result ≡ self.now.height }
         ensures small { result + 1 < 2 ^ 64 }
@@ -72,7 +74,25 @@ impl Cells {
         self.height
     }
 
-    fn holds(&self, x: u64, y: u64) -> bool
+    /// The number of cells.
+    pub fn count(&self) -> u64
+        ensures { result ≡ self.now.width * self.now.height }
+    {
+        self.bits.len() as u64
+    }
+
+    /// The place of a cell, counted from 0 row by row.
+    pub fn place(&self, x: u64, y: u64) -> usize
+        requires { (x < self.now.width) × (y < self.now.height) }
+        ensures value { result ≡ y * self.now.width + x }
+        ensures within { result < self.now.width * self.now.height }
+    {
+        let _cells = self.bits.len();
+        (y * self.width + x) as usize
+    }
+
+    /// Whether the edge reaches the cells of this column and row; outside the table it reaches none.
+    pub fn holds(&self, x: u64, y: u64) -> bool
         ensures { IsTrue result ↔ Holds self.now x y }
     {
         if x < self.width && y < self.height {
@@ -130,14 +150,14 @@ impl Cells {
     }
 
     // Whether a run that goes this way begins at the point.
-    pub fn begins(&self, way: Way, at: Point) -> bool
+    pub(crate) fn begins(&self, way: Way, at: Point) -> bool
         ensures { IsTrue result ↔ Begins (Holds self.now) way at }
     {
         self.leaves(way, at) && !self.arrives(way, at)
     }
 
     // The last point of the run that begins here.
-    pub fn end(&self, way: Way, at: Point) -> Point
+    pub(crate) fn end(&self, way: Way, at: Point) -> Point
         requires { Begins (Holds self.now) way at }
         ensures { RunBy (Holds self.now) way at result }
     {
