@@ -147,7 +147,7 @@ fn contour_text(alloc: Global, document: Document) -> Result<Vec<u8>, NoMemory>
         side: document.side,
         points: document.points,
     };
-    let regions = Regions::of(alloc, &document.tree, &metric, &placement)?;
+    let regions = Regions::of(alloc, &metric, &placement)?;
     regions_text(alloc, &document.tree, &regions)
 }
 

@@ -27,7 +27,7 @@ pub fn fold_text(alloc: Global, document: Document) -> Result<Vec<u8>, NoMemory>
         side: document.side,
         points: document.points,
     };
-    let regions = Regions::of(alloc, &document.tree, &metric, &placement)?;
+    let regions = Regions::of(alloc, &metric, &placement)?;
     let drawing = draw(alloc, &regions)?;
     text_of(alloc, &drawing)
 }
