@@ -47,3 +47,10 @@ pub fn law_of_solved(metric: &Metric)
 pub fn one_next(metric: &Metric)
     ensures { (path : List Step) (p r : Option Pair) → IsNext metric.now.tree path p → IsNext metric.now.tree path r → p ≡ r }
 {}
+
+/// A path that has least coordinates has a next pair, or none.
+pub fn has_next(metric: &Metric)
+    ensures { (path : List Step) (l : Least) → IsLeast metric.now.tree metric.now.sheet path l → (p : Option Pair) × IsNext metric.now.tree path p }
+{
+    let _leaves = metric.leaves();
+}

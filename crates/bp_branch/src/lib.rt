@@ -10,7 +10,7 @@ mod placing;
 mod tests;
 
 pub use judging::{examine, extended, judge};
-pub use laws::{law_of_branches, law_of_children, law_of_solved, one_next};
+pub use laws::{has_next, law_of_branches, law_of_children, law_of_solved, one_next};
 pub use order::PairOrder;
 pub use pairs::next_pair;
 pub use placing::low_points;

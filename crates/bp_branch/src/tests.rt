@@ -3,8 +3,8 @@ ghost use Rattle.std.specs.Prelude.{◌≤◌};
 ghost use Rattle.bp_base.specs.Limits.{most_number};
 
 use crate::{
-    PairOrder, examine, law_of_branches, law_of_children, law_of_solved, low_points, next_pair,
-    one_next,
+    PairOrder, examine, has_next, law_of_branches, law_of_children, law_of_solved, low_points,
+    next_pair, one_next,
 };
 use bp_base::{Choice, Claim, Outcome, Step};
 use bp_metric::Metric;
@@ -114,6 +114,7 @@ fn points_of_a_star(rt: HostRuntime) -> Result<(), Fail> {
     law_of_branches(&metric);
     law_of_children(&metric);
     law_of_solved(&metric);
+    has_next(&metric);
     one_next(&metric);
     let steps = [step(1, 2, Choice::Left), step(1, 3, Choice::Below)];
     let found = points(alloc, &metric, &steps)?;

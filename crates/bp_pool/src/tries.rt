@@ -7,7 +7,8 @@ ghost use Rattle.bp_pool.specs.Tries.{Rose, NoneFell, Grew, Stays, PopsOwn, Stea
 use crate::hand::Hand;
 use bp_base::Task;
 
-/// A hand's tries at the deques of a pool, its own among them: a pop of its own, and a steal from another. Counts tell which tries gave none.
+/// The deques of a pool's hands, as one of them reaches them: it takes the last task of its own deque, or the first of another's,
+/// and counts what it missed. The pool's own hand is one, and so is a list of deques in memory.
 pub trait Tries {
     ghost use Rattle.std.specs.Prelude.{ℕ, List, Option};
     ghost use Rattle.bp_base.specs.declared.record.Task.{Task};
@@ -18,7 +19,7 @@ pub trait Tries {
 
     ghost hands: { Self → ℕ };
 
-    /// For each hand, how often its deque was seen empty, and how often a steal from it was lost.
+    /// For each hand, how often its deque was seen empty, and how often a steal was lost.
     ghost misses: { Self → List ℕ };
 
     ghost lost: { Self → List ℕ };
@@ -29,10 +30,10 @@ pub trait Tries {
     /// What each deque holds, where it is told.
     ghost deques: { Self → Option (List (List Task)) };
 
-    /// What a try leaves as it was.
+    /// What else it keeps; no try changes it.
     ghost rest: { Self → RestView };
 
-    /// Its number, from 1 on.
+    /// Which hand it is, from 1 on.
     fn number(&self) -> u64
         ensures number { result ≡ number self.now }
         ensures in_range { (1 ≤ result) × (result ≤ hands self.now) };
@@ -42,7 +43,7 @@ pub trait Tries {
         ensures hands { result ≡ hands self.now }
         ensures few { result ≤ most_hands };
 
-    /// Takes the last task of the own deque. Where it is None the count of its misses rose.
+    /// Takes the last task of the own deque, or none, which is counted: the deque was seen empty.
     fn pop(&mut self) -> Option<Task>
         ensures same { Stays (number self.old) (hands self.old) (rest self.old) (number self.new) (hands self.new) (rest self.new) }
         ensures counts { NoneFell (misses self.old) (misses self.new) × NoneFell (lost self.old) (lost self.new) }
@@ -50,7 +51,8 @@ pub trait Tries {
         ensures taken { Grew (taken self.old) result (taken self.new) }
         ensures deques { PopsOwn (deques self.old) (number self.old - 1) result (deques self.new) };
 
-    /// Takes the first task of the deque of another hand. Where it gives none a count of that hand rose.
+    /// Takes the first task of another hand's deque. Where it takes none that is counted: the deque was seen empty, or the steal was
+    /// lost to another hand.
     fn steal(&mut self, from: u64) -> Stolen
         requires { (1 ≤ from) × (from ≤ hands self.old) × (from ≢ number self.old) }
         ensures same { Stays (number self.old) (hands self.old) (rest self.old) (number self.new) (hands self.new) (rest self.new) }
@@ -64,9 +66,7 @@ pub trait Tries {
 #[derive(Drop)]
 pub enum Stolen {
     Task(Task),
-    /// The deque was seen empty.
     Empty,
-    /// Another hand was quicker, so the deque may hold more.
     Lost,
 }
 
@@ -74,9 +74,7 @@ pub enum Stolen {
 #[derive(Drop)]
 pub enum Take {
     Task(Task),
-    /// Each deque was seen empty, one after another.
     Empty,
-    /// The own deque was seen empty, and of the others some steal was lost.
     Contended,
 }
 
