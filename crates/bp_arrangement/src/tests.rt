@@ -1,37 +1,15 @@
 // Swaps of a star.
-ghost use Rattle.std.specs.Prelude.{◌≡◌, IfOk};
 
 use super::*;
-use bp_base::{Name, Pair, Sequence, Tree};
+use bp_base::{Pair, Sequence, Tree};
 use bp_metric::Metric;
+use bp_samples::tree;
 use std::alloc::Global;
 use std::test::Fail;
 
-fn named(text: &[u8]) -> Result<Name, Fail>
-    ensures { IfOk result (λ name. name ≡ text.now) }
-{
-    match Name::new(text) {
-        Some(name) => Ok(name),
-        None => Err(Fail::from("no name")),
-    }
-}
-
 // Seven leaves on one node: four of length 2, and three of length 1.
 fn star(alloc: Global) -> Result<Tree, Fail> {
-    let names = [
-        named(b"c")?,
-        named(b"p")?,
-        named(b"q")?,
-        named(b"r")?,
-        named(b"s")?,
-        named(b"t")?,
-        named(b"u")?,
-        named(b"v")?,
-    ];
-    let parents = Vec::from_slice(alloc, &[0; 8])?;
-    let lengths = Vec::from_slice(alloc, &[0, 2, 2, 2, 2, 1, 1, 1])?;
-    let names = Vec::from_slice(alloc, &names)?;
-    Ok(Tree::of(parents, lengths, names))
+    Ok(tree(alloc, &[0; 8], &[0, 2, 2, 2, 2, 1, 1, 1])?)
 }
 
 #[test]

@@ -1,7 +1,6 @@
 // Documents that check, and documents that fail a condition.
-ghost use Rattle.std.specs.Prelude.{◌≡◌, ◌≤◌, IsTrue, IfOk};
+ghost use Rattle.std.specs.Prelude.{IsTrue};
 ghost use Rattle.bp_metric.specs.Metric.{IsSheet};
-ghost use Rattle.bp_metric.specs.Samples.{is_sample, letters};
 
 mod streams;
 
@@ -13,37 +12,14 @@ use crate::{
     law_of_checks, one_reason,
 };
 use bp_base::{
-    Axis, Chain, Claim, Floor, Name, NoMemory, Pair, Point, Refutation, Sequence, Sheet, Tree,
+    Axis, Chain, Claim, Floor, NoMemory, Pair, Point, Refutation, Sequence, Sheet, Tree,
 };
 use bp_document::{DocFault, DocKind, Document, NodeKind, NodeLine};
 use bp_metric::Metric;
+use bp_samples::tree;
 use sqlite_items::Items;
 use std::alloc::Global;
 use std::test::Fail;
-
-// The names a, b, c, ..
-fn names(alloc: Global, count: usize) -> Result<Vec<Name>, Fail>
-    requires { count ≤ 26 }
-    ensures { IfOk result (λ v. v.items ≡ letters count) }
-{
-    let mut names = Vec::new(alloc);
-    for number in 0..count {
-        match Name::new(&[97 + number as u8]) {
-            Some(name) => names.push(name)?,
-            None => return Err(Fail::from("no name")),
-        }
-    }
-    Ok(names)
-}
-
-fn tree(alloc: Global, parents: &[u64], lengths: &[u64]) -> Result<Tree, Fail>
-    requires { IsTrue (is_sample parents.now lengths.now) }
-{
-    let names = names(alloc, parents.len())?;
-    let parents = Vec::from_slice(alloc, parents)?;
-    let lengths = Vec::from_slice(alloc, lengths)?;
-    Ok(Tree::of(parents, lengths, names))
-}
 
 // The word of a proof line behind the depth.
 #[derive(Clone, Copy, PartialEq, Eq)]

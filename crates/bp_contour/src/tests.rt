@@ -1,73 +1,31 @@
 // Contours of worked placements, and of drawn ones beside a plain look at each unit segment.
-ghost use Rattle.std.specs.Prelude.{◌≡◌, ◌≤◌, length, IfOk, IfSome};
+ghost use Rattle.std.specs.Prelude.{◌≡◌, ◌≤◌, IfOk, IfSome};
 ghost use Rattle.bp_base.specs.Limits.{most_number};
-ghost use Rattle.bp_base.specs.Tree.{IsEdge, leaf_count};
+ghost use Rattle.bp_base.specs.Tree.{IsEdge};
 
 use super::*;
-use bp_base::{Name, Placement, Point, Sequence, Tree};
+use bp_base::{Placement, Point, Sequence, Tree};
 use bp_metric::Metric;
 use bp_pairs::is_valid;
 use bp_regions::Regions;
+use bp_samples::tree;
 use std::alloc::Global;
 use std::process::Abort;
 use std::test::Fail;
 
-fn named(text: &[u8]) -> Result<Name, Fail>
-    ensures { IfOk result (λ name. name ≡ text.now) }
-{
-    match Name::new(text) {
-        Some(name) => Ok(name),
-        None => Err(Fail::from("no name")),
-    }
-}
-
 // r a 2/r b 2/a a1 1/a a2 1/b b1 1/b b2 1/
 fn twigs(alloc: Global) -> Result<Tree, Fail> {
-    let names = [
-        named(b"r")?,
-        named(b"a")?,
-        named(b"b")?,
-        named(b"a1")?,
-        named(b"a2")?,
-        named(b"b1")?,
-        named(b"b2")?,
-    ];
-    let parents = Vec::from_slice(alloc, &[0, 0, 0, 1, 1, 2, 2])?;
-    let lengths = Vec::from_slice(alloc, &[0, 2, 2, 1, 1, 1, 1])?;
-    let names = Vec::from_slice(alloc, &names)?;
-    Ok(Tree::of(parents, lengths, names))
+    Ok(tree(alloc, &[0, 0, 0, 1, 1, 2, 2], &[0, 2, 2, 1, 1, 1, 1])?)
 }
 
 // r a 1/r c 1/a p 1/a q 1/
 fn corners(alloc: Global) -> Result<Tree, Fail> {
-    let names = [
-        named(b"r")?,
-        named(b"a")?,
-        named(b"c")?,
-        named(b"p")?,
-        named(b"q")?,
-    ];
-    let parents = Vec::from_slice(alloc, &[0, 0, 0, 1, 1])?;
-    let lengths = Vec::from_slice(alloc, &[0, 1, 1, 1, 1])?;
-    let names = Vec::from_slice(alloc, &names)?;
-    Ok(Tree::of(parents, lengths, names))
+    Ok(tree(alloc, &[0, 0, 0, 1, 1], &[0, 1, 1, 1, 1])?)
 }
 
 // r a 1/r c 1/a p 1/a q 1/a s 1/a t 1/
 fn ring(alloc: Global) -> Result<Tree, Fail> {
-    let names = [
-        named(b"r")?,
-        named(b"a")?,
-        named(b"c")?,
-        named(b"p")?,
-        named(b"q")?,
-        named(b"s")?,
-        named(b"t")?,
-    ];
-    let parents = Vec::from_slice(alloc, &[0, 0, 0, 1, 1, 1, 1])?;
-    let lengths = Vec::from_slice(alloc, &[0, 1, 1, 1, 1, 1, 1])?;
-    let names = Vec::from_slice(alloc, &names)?;
-    Ok(Tree::of(parents, lengths, names))
+    Ok(tree(alloc, &[0, 0, 0, 1, 1, 1, 1], &[0, 1, 1, 1, 1, 1, 1])?)
 }
 
 // The regions of points that are valid at the side, or none.

@@ -1,62 +1,30 @@
 // Drawings of worked placements, and of small ones beside a plain look at each unit segment.
-ghost use Rattle.std.specs.Prelude.{◌≡◌, ◌≤◌, IfOk};
+ghost use Rattle.std.specs.Prelude.{◌≡◌, ◌≤◌};
 ghost use Rattle.bp_base.specs.Limits.{most_number};
 
 use super::*;
-use bp_base::{Axis, MemSink, Name, Placement, Point, Sequence, Tree};
+use bp_base::{Axis, MemSink, Placement, Point, Sequence, Tree};
 use bp_metric::Metric;
 use bp_pairs::is_valid;
 use bp_regions::Regions;
+use bp_samples::tree;
 use std::alloc::Global;
 use std::process::Abort;
 use std::test::Fail;
 
-fn named(text: &[u8]) -> Result<Name, Fail>
-    ensures { IfOk result (λ name. name ≡ text.now) }
-{
-    match Name::new(text) {
-        Some(name) => Ok(name),
-        None => Err(Fail::from("no name")),
-    }
-}
-
 // c p 1/c q 1/c r 1/c s 1/
 fn star_of_four(alloc: Global) -> Result<Tree, Fail> {
-    let names = [
-        named(b"c")?,
-        named(b"p")?,
-        named(b"q")?,
-        named(b"r")?,
-        named(b"s")?,
-    ];
-    let parents = Vec::from_slice(alloc, &[0, 0, 0, 0, 0])?;
-    let lengths = Vec::from_slice(alloc, &[0, 1, 1, 1, 1])?;
-    let names = Vec::from_slice(alloc, &names)?;
-    Ok(Tree::of(parents, lengths, names))
+    Ok(tree(alloc, &[0, 0, 0, 0, 0], &[0, 1, 1, 1, 1])?)
 }
 
 // c p 3/c q 4/
 fn star_3_4(alloc: Global) -> Result<Tree, Fail> {
-    let names = [named(b"c")?, named(b"p")?, named(b"q")?];
-    let parents = Vec::from_slice(alloc, &[0, 0, 0])?;
-    let lengths = Vec::from_slice(alloc, &[0, 3, 4])?;
-    let names = Vec::from_slice(alloc, &names)?;
-    Ok(Tree::of(parents, lengths, names))
+    Ok(tree(alloc, &[0, 0, 0], &[0, 3, 4])?)
 }
 
 // r a 1/r c 1/a p 1/a q 1/
 fn two_corners(alloc: Global) -> Result<Tree, Fail> {
-    let names = [
-        named(b"r")?,
-        named(b"a")?,
-        named(b"c")?,
-        named(b"p")?,
-        named(b"q")?,
-    ];
-    let parents = Vec::from_slice(alloc, &[0, 0, 0, 1, 1])?;
-    let lengths = Vec::from_slice(alloc, &[0, 1, 1, 1, 1])?;
-    let names = Vec::from_slice(alloc, &names)?;
-    Ok(Tree::of(parents, lengths, names))
+    Ok(tree(alloc, &[0, 0, 0, 1, 1], &[0, 1, 1, 1, 1])?)
 }
 
 // The regions of points, where these are valid at the side.

@@ -1,39 +1,15 @@
 // The turns of a root: it is split while it has to beat more than it forces, and else closed.
-ghost use Rattle.std.specs.Prelude.{◌≡◌, ◌≤◌, IsTrue, IfOk};
+ghost use Rattle.std.specs.Prelude.{◌≤◌};
 ghost use Rattle.bp_base.specs.Limits.{most_number};
-ghost use Rattle.bp_metric.specs.Samples.{is_sample, letters};
 
 use crate::{Examiner, Turn};
-use bp_base::{Choice, Name, NoMemory, Pair, Path, RecordKind, Sequence, Sheet, Step, Task, Tree};
+use bp_base::{NoMemory, Pair, Path, RecordKind, Sequence, Sheet, Task};
 use bp_branch::law_of_branches;
 use bp_metric::Metric;
+use bp_samples::tree;
 use std::alloc::Global;
 use std::process::Abort;
 use std::test::Fail;
-
-// The names a, b, c, ..
-fn names(alloc: Global, count: usize) -> Result<Vec<Name>, NoMemory>
-    requires { count ≤ 26 }
-    ensures { IfOk result (λ v. v.items ≡ letters count) }
-{
-    let mut names = Vec::new(alloc);
-    for number in 0..count {
-        match Name::new(&[97 + number as u8]) {
-            Some(name) => names.push(name)?,
-            None => return Err(NoMemory),
-        }
-    }
-    Ok(names)
-}
-
-fn tree(alloc: Global, parents: &[u64], lengths: &[u64]) -> Result<Tree, NoMemory>
-    requires { IsTrue (is_sample parents.now lengths.now) }
-{
-    let names = names(alloc, parents.len())?;
-    let parents = Vec::from_slice(alloc, parents)?;
-    let lengths = Vec::from_slice(alloc, lengths)?;
-    Ok(Tree::of(parents, lengths, names))
-}
 
 // Examines the root for a hand that knows a side, and gives how many children it has.
 fn root_turn(
