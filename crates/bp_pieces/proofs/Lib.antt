@@ -1,4 +1,5 @@
 mod Counted
 mod Joined
 mod Labelled
+mod Scaled
 mod Unique
