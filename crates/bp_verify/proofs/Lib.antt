@@ -1,3 +1,4 @@
 mod Right
 mod Each
 mod Reasoning
+mod Deciding

@@ -246,7 +246,7 @@ module _ (T : TreeValue) where
 
   of_plan : (ls : Option Lemmas) (p : Plan) (r : Option Reason) → HasPlan ls (Some p) → IsPlanReason T p.swaps p.corner r → IsLemmasReason T ls r
   of_plan None p r has reason = absurd has
-  of_plan (Some L) p r (corner, swaps, count) reason =
+  of_plan (Some L) p r (corner, swaps) reason =
       of_lemmas L r (subst (λ (c : Option Pair). IsPlanReason T L.swaps c r) (sym corner) (subst (λ (s : List (List Pair)). IsPlanReason T s p.corner r) (sym swaps) reason))
 
   without_plan : (ls : Option Lemmas) → HasPlan ls None → CanSwapAll T ls

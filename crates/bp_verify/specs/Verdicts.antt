@@ -1,22 +1,26 @@
 -- The verdict of a certificate, and what is found of it before its lemmas are read.
-use Rattle.std.specs.Prelude.{◌≡◌, List, length, All, Option, None, Some}
+use Rattle.std.specs.Prelude.{◌≡◌, ◌↔◌, ℕ, ◌≤◌, nat_le, List, length, All, true, Option, None, Some, if◌then◌else◌}
 use Rattle.bp_base.specs.declared.path.Pair.{Pair}
+use Rattle.bp_base.specs.declared.point.Sheet.{Sheet}
 use Rattle.bp_base.specs.Tree.{TreeValue}
 use Rattle.bp_metric.specs.Floor.{FloorHolds}
 use Rattle.bp_metric.specs.Valid.{Valid}
 use Rattle.bp_pairs.specs.declared.valid.Flaw.{Flaw}
 use Rattle.bp_pairs.specs.declared.valid.Flaw.TheVariants as flaw
 use Rattle.bp_arrangement.specs.Swaps.{IsCorner, IsAdmissible}
+use Rattle.bp_lemmas.specs.Standing.{EndsEmpty, facts_of}
 use Rattle.bp_certificate.specs.declared.certificate.Certificate.{Certificate}
 use Rattle.bp_certificate.specs.declared.certificate.CertificateHead.{CertificateHead}
 use Rattle.bp_certificate.specs.declared.certificate.Lemmas.{Lemmas}
 use Rattle.bp_certificate.specs.declared.certificate.Plan.{Plan}
+use Rattle.bp_verify.specs.declared.found.Found.{Found}
+use Rattle.bp_verify.specs.declared.found.Found.TheVariants.{NoLemmas, WrongLemma, Standing}
 use Rattle.bp_verify.specs.declared.verdict.Reason.{Reason}
 use Rattle.bp_verify.specs.declared.verdict.Reason.TheVariants.{TreeDiffers, Outside, TooNear, BadFloor, BadCorner, BadSwap, BadLemma, BoundNotShown}
 use Rattle.bp_verify.specs.declared.verdict.Verdict.{Verdict}
 use Rattle.bp_verify.specs.declared.verdict.Verdict.TheVariants.{Yes, No}
-use Rattle.bp_verify.specs.Certifies.{Certifies}
-use Rattle.bp_verify.specs.Reasons.{HasCorner, HasBadSwap, IsFirstReason}
+use Rattle.bp_verify.specs.Certifies.{Certifies, lemmas_of, system_of}
+use Rattle.bp_verify.specs.Reasons.{HasCorner, HasBadSwap, StandsAt, FailsLemma, IsFirstReason}
 
 -- yes where it is right, and else the first reason
 abbrev pub IsVerdictOf : TreeValue → Certificate → Verdict → Type 0
@@ -28,12 +32,12 @@ abbrev pub reason_of : Flaw → Reason
 reason_of (flaw.Outside i) = Outside i
 reason_of (flaw.Near i j) = TooNear i j
 
--- what stands before the lemma lines tells these lemmas' number, corner and swaps
+-- what stands before the lemma lines tells these lemmas' corner and swaps
 abbrev pub HasPlan : Option Lemmas → Option Plan → Type 0
 HasPlan None None = Unit {0}
 HasPlan None (Some p) = ⊥
 HasPlan (Some L) None = ⊥
-HasPlan (Some L) (Some p) = (L.corner ≡ p.corner) × (L.swaps ≡ p.swaps) × (length L.lemmas ≡ p.count)
+HasPlan (Some L) (Some p) = (L.corner ≡ p.corner) × (L.swaps ≡ p.swaps)
 
 -- the certificate has this head
 pub record HasHead (C : Certificate) (H : CertificateHead) : Type 0 where
@@ -77,3 +81,30 @@ pub record IsSoundSoFar (T : TreeValue) (C : Certificate) : Type 0 where
 abbrev pub IsReasonBefore : TreeValue → Certificate → Option Reason → Type 0
 IsReasonBefore T C None = IsSoundSoFar T C
 IsReasonBefore T C (Some reason) = IsFirstReason T C reason
+
+-- all lemmas stand, on this corner
+abbrev pub StandFrom : TreeValue → Sheet → ℕ → Lemmas → Option Pair → Type 0
+StandFrom T G bound L None = ⊥
+StandFrom T G bound L (Some corner) =
+    (k : ℕ) → 1 ≤ k → k ≤ length (lemmas_of L) → StandsAt (system_of T G bound corner L) (lemmas_of L) k
+
+abbrev pub AllStand : TreeValue → Sheet → ℕ → Option Lemmas → Type 0
+AllStand T G bound None = ⊥
+AllStand T G bound (Some L) = StandFrom T G bound L L.corner
+
+-- the last lemma has no facts
+abbrev pub EndsWell : Option Lemmas → Type 0
+EndsWell None = ⊥
+EndsWell (Some L) = EndsEmpty (facts_of (lemmas_of L))
+
+-- what is found of the lemmas
+abbrev pub IsFoundOf : TreeValue → Certificate → Found → Type 0
+IsFoundOf T C NoLemmas = C.lemmas ≡ None
+IsFoundOf T C (WrongLemma number) = FailsLemma T C.sheet C.bound C.lemmas number
+IsFoundOf T C (Standing ends) = AllStand T C.sheet C.bound C.lemmas × ((ends ≡ true) ↔ EndsWell C.lemmas)
+
+-- the verdict by what is found of the lemmas
+abbrev pub verdict_of : ℕ → ℕ → Found → Verdict
+verdict_of bound floor NoLemmas = if nat_le bound floor then Yes else No BoundNotShown
+verdict_of bound floor (WrongLemma number) = No (BadLemma number)
+verdict_of bound floor (Standing ends) = if ends then Yes else No BoundNotShown

@@ -2,9 +2,10 @@
 ghost use Rattle.std.specs.Prelude.{◌≡◌, length, Some};
 ghost use Rattle.bp_base.specs.Tree.{leaf_count};
 ghost use Rattle.bp_certificate.specs.declared.certificate.Certificate.{Certificate as AnyCertificate};
-ghost use Rattle.bp_verify.specs.Verdicts.{HasHead, IsPlanReason, IsReasonBefore, reason_of};
+ghost use Rattle.bp_verify.specs.Verdicts.{HasHead, IsPlanReason, IsReasonBefore, reason_of, verdict_of};
 
-use crate::verdict::Reason;
+use crate::found::Found;
+use crate::verdict::{Reason, Verdict};
 use bp_arrangement::{first_inadmissible, is_corner};
 use bp_base::{Pair, Sequence};
 use bp_certificate::CertificateHead;
@@ -62,5 +63,17 @@ fn reason_of_swaps(metric: &Metric, corner: Pair, swaps: &[Sequence<Pair>]) -> O
     match first_inadmissible(metric, corner.i, corner.j, swaps) {
         None => None,
         Some(number) => Some(Reason::BadSwap { number }),
+    }
+}
+
+/// The verdict of a certificate against which there is no reason before its lemmas, by what is found of these.
+pub fn verdict_of(bound: u64, floor: u64, found: Found) -> Verdict
+    ensures { result ≡ verdict_of bound floor found }
+{
+    match found {
+        Found::NoLemmas if bound <= floor => Verdict::Yes,
+        Found::WrongLemma { number } => Verdict::No(Reason::BadLemma { number }),
+        Found::Standing { ends: true } => Verdict::Yes,
+        _ => Verdict::No(Reason::BoundNotShown),
     }
 }

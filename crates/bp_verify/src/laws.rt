@@ -5,7 +5,9 @@ ghost use Rattle.bp_metric.specs.Valid.{NoneBelow, Valid};
 ghost use Rattle.bp_certificate.specs.declared.certificate.Certificate.{Certificate as AnyCertificate};
 ghost use Rattle.bp_verify.specs.declared.verdict.Reason.{Reason as AnyReason};
 ghost use Rattle.bp_verify.specs.Certifies.{Certifies};
+ghost use Rattle.bp_verify.specs.declared.found.Found.{Found as AnyFound};
 ghost use Rattle.bp_verify.specs.Reasons.{IsFirstReason};
+ghost use Rattle.bp_verify.specs.Verdicts.{IsFoundOf, IsSoundSoFar, IsVerdictOf, verdict_of};
 
 use bp_floor::law_of_floors;
 use bp_lemmas::law_of_lemmas;
@@ -30,4 +32,9 @@ pub fn certifies_without_reason()
 /// There is only one first reason.
 pub fn one_reason()
     ensures { (T : TreeValue) (C : AnyCertificate) (r s : AnyReason) → IsFirstReason T C r → IsFirstReason T C s → r ≡ s }
+{}
+
+/// Where there is no reason before the lemmas, the verdict is the one by what is found of these.
+pub fn law_of_verdicts()
+    ensures { (T : TreeValue) (C : AnyCertificate) (f : AnyFound) → IsSoundSoFar T C → IsFoundOf T C f → IsVerdictOf T C (verdict_of C.bound C.floor.side f) }
 {}
