@@ -2,3 +2,4 @@ pub mod Told
 pub mod Hinted
 pub mod Law
 pub mod Trees
+mod Worked

@@ -12,3 +12,6 @@ mod store;
 mod unsure;
 
 pub use replay::Replay;
+
+#[cfg(test)]
+mod tests;
