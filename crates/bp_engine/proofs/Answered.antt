@@ -1,10 +1,10 @@
 -- A document that was read, and the text that answers it.
-use Rattle.std.proofs.Common.{◌≡◌, ◌⊎◌, inl, inr, ℕ, List, Result, Ok, Err, IfOk, IfErr, sym, ap, subst, refl}
+use Rattle.std.proofs.Common.{◌≡◌, inl, inr, ℕ, List, Result, Ok, Err, IfOk, IfErr, sym, subst}
 use Rattle.std.specs.declared.option.Option.{Option}
 use Rattle.bp_tree.specs.declared.fault.TreeFault.{TreeFault}
 use Rattle.bp_document.specs.declared.document.Document.{Document}
 use Rattle.bp_engine.specs.declared.status.Status.{Status}
-use Rattle.bp_engine.specs.declared.status.Status.TheVariants.{Done, TreeRefused, GaveUp, ReadFault, WriteFault, NoMemory, No, NotBuilt, Usage}
+use Rattle.bp_engine.specs.declared.status.Status.TheVariants.{Done, TreeRefused, ReadFault, WriteFault, No, NotBuilt, Usage}
 use Rattle.bp_engine.specs.Documents.{Handles, IsDrawn, Writes}
 use Rattle.bp_engine.specs.Outcomes.{AnswersDoc, IsFinal, WritesText}
 use Rattle.bp_engine.specs.Reading.{ReadsNoDoc}

@@ -14,7 +14,7 @@ use Rattle.bp_document.specs.declared.fault.DocFault.{DocFault}
 use Rattle.bp_document.specs.Faults.{IsTextOf}
 use Rattle.bp_check.specs.Streams.{HasRead, Told, IsRefused as IsRefusedDoc, most_read as most_doc_read}
 use Rattle.bp_engine.specs.declared.status.Status.{Status}
-use Rattle.bp_engine.specs.declared.status.Status.TheVariants.{Done, TreeRefused, DocRefused, Usage, GaveUp, ReadFault, WriteFault, NoMemory, No, NotBuilt}
+use Rattle.bp_engine.specs.declared.status.Status.TheVariants.{Done, TreeRefused, DocRefused, Usage, GaveUp, WriteFault, No, NotBuilt}
 use Rattle.bp_engine.specs.Reading.{IsRead, IsRefused, ReadsDoc, ReadsNoDoc, ReadsNoTree, ReadsTree, most_read}
 use Rattle.bp_engine.specs.Run.{IsSilent}
 use Rattle.bp_engine.specs.Texts.{MayWrite}

@@ -1,5 +1,5 @@
 -- What a check in one pass has told, and the text that answers it.
-use Rattle.std.proofs.Common.{◌≡◌, ◌↔◌, ◌⊎◌, inl, inr, ℕ, List, [], Ok, Err, sym, ap, ◌∙◌, subst, refl}
+use Rattle.std.proofs.Common.{◌≡◌, ◌↔◌, inl, inr, ℕ, List, [], Ok, Err, sym, ap, ◌∙◌, subst, refl}
 use Rattle.std.specs.declared.option.Option.{Option}
 use Rattle.std.specs.declared.option.Option.TheVariants.{None, Some}
 use Rattle.bp_base.specs.Tree.{TreeValue}
@@ -18,13 +18,12 @@ use Rattle.bp_check.specs.Checks.{Checks}
 use Rattle.bp_check.specs.Reasons.{IsFirstReason}
 use Rattle.bp_check.specs.Streams.{Streams, Told}
 use Rattle.bp_engine.specs.declared.status.Status.{Status}
-use Rattle.bp_engine.specs.declared.status.Status.TheVariants.{Done, TreeRefused, DocRefused, Usage, GaveUp, ReadFault, WriteFault, NoMemory, No, NotBuilt}
+use Rattle.bp_engine.specs.declared.status.Status.TheVariants.{Done, TreeRefused, DocRefused, ReadFault, WriteFault, NoMemory, No}
 use Rattle.bp_engine.specs.Checking.{ChecksBoth, IsChecked, yes_text}
 use Rattle.bp_engine.specs.Documents.{Handles}
 use Rattle.bp_engine.specs.Outcomes.{AnswersDoc, IsAnswerTo, IsFinal, status_of}
 use Rattle.bp_engine.specs.Reading.{ReadsDoc, ReadsNoDoc, ReadsNoTree}
 use Rattle.bp_engine.specs.Run.{IsDoneOrNo, IsJudged}
-use Rattle.bp_engine.specs.Texts.{MayWrite}
 use Rattle.bp_engine.proofs.Completed.{no_doc_fault, no_tree_fault}
 
 is_checked : (T : TreeValue) (D : Document) (side bound : ℕ) (v : Verdict) (status : Status) (text : List ℕ) → side ≡ D.side → bound ≡ D.bound → ((v ≡ verdict.Yes) ↔ Checks T D) → ((reason : Reason) → ((v ≡ verdict.No reason) ↔ IsFirstReason T D reason)) → IsAnswerTo side bound v status text → IsChecked T D status text

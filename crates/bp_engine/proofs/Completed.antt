@@ -1,5 +1,5 @@
 -- Where nothing failed, inputs in their grammars are answered.
-use Rattle.std.proofs.Common.{◌≡◌, ◌⊎◌, inl, inr, ℕ, List, take, drop, refl, sym, ap, subst, arith}
+use Rattle.std.proofs.Common.{◌≡◌, inl, inr, ℕ, List, take, drop, refl, sym, subst, arith}
 use Rattle.std.specs.declared.option.Option.{Option}
 use Rattle.std.specs.declared.option.Option.TheVariants.{Some}
 use Rattle.std.proofs.lemmas.List.{take_all}
@@ -13,11 +13,11 @@ use Rattle.bp_document.specs.Faults.{IsTextOf}
 use Rattle.bp_check.specs.Streams.{IsRefused as IsRefusedDoc, most_read as most_doc_read}
 use Rattle.bp_engine.specs.declared.design.Asked.{Asked}
 use Rattle.bp_engine.specs.declared.status.Status.{Status}
-use Rattle.bp_engine.specs.declared.status.Status.TheVariants.{Done, TreeRefused, DocRefused, Usage, GaveUp, ReadFault, WriteFault, NoMemory, No, NotBuilt}
+use Rattle.bp_engine.specs.declared.status.Status.TheVariants.{Done, TreeRefused, DocRefused, GaveUp, ReadFault, WriteFault, NoMemory}
 use Rattle.bp_engine.specs.Designs.{Designs, IsFound, Sinks}
-use Rattle.bp_engine.specs.Documents.{Handles, Writes}
+use Rattle.bp_engine.specs.Documents.{Handles}
 use Rattle.bp_engine.specs.Reading.{IsRefused, ReadsNoDoc, ReadsNoTree, most_read}
-use Rattle.bp_engine.specs.Run.{IsDone, IsDoneOrGivenUp, IsDoneOrNo}
+use Rattle.bp_engine.specs.Run.{IsDone, IsDoneOrGivenUp}
 
 module _ (left after : Option (List ℕ)) (b : List ℕ) (some : left ≡ Some b) where
   pub no_tree_fault : (T : TreeValue) (fault : TreeFault) → TreeOf b T → ReadsNoTree left after (TreeRefused fault) → ⊥

@@ -11,7 +11,7 @@ use Rattle.bp_words.specs.declared.words.Words.{Words}
 use Rattle.bp_words.specs.declared.words.Words.TheVariants.{Design, Check, Contours, Rewrite}
 use Rattle.bp_engine.specs.declared.design.Asked.{Asked}
 use Rattle.bp_engine.specs.declared.status.Status.{Status}
-use Rattle.bp_engine.specs.declared.status.Status.TheVariants.{Done, GaveUp, ReadFault, WriteFault, NoMemory, No}
+use Rattle.bp_engine.specs.declared.status.Status.TheVariants.{Done, GaveUp, ReadFault, WriteFault, No}
 use Rattle.bp_engine.specs.Checking.{ChecksBoth}
 use Rattle.bp_engine.specs.Designs.{Designs}
 use Rattle.bp_engine.specs.Documents.{Draws, IsDrawn, IsRewritten, Rewrites}

@@ -15,7 +15,7 @@ use Rattle.bp_document.specs.Text.{doc_text}
 use Rattle.bp_design.specs.Design.{IsDesign}
 use Rattle.bp_engine.specs.declared.design.Asked.{Asked}
 use Rattle.bp_engine.specs.declared.status.Status.{Status}
-use Rattle.bp_engine.specs.declared.status.Status.TheVariants.{Done, Usage, GaveUp, ReadFault, WriteFault, NoMemory, NotBuilt}
+use Rattle.bp_engine.specs.declared.status.Status.TheVariants.{Done, GaveUp, ReadFault, WriteFault, NoMemory}
 use Rattle.bp_engine.specs.Designs.{AreDisjoint, IsFoldTextOf, IsFound, Sinks, WritesDesign, WritesFold, WritesFoldFront}
 use Rattle.bp_engine.specs.Outcomes.{Ends, WritesOutcome}
 use Rattle.bp_engine.specs.Run.{IsSilent}

@@ -2,7 +2,6 @@
 use Rattle.std.specs.Prelude.{◌≡◌, ◌⊎◌, ℕ, ◌+◌, List, [], ◌∷◌, ◌++◌, length, codes, decimal}
 use Rattle.std.specs.List.{flat_map}
 use Rattle.std.specs.declared.option.Option.{Option}
-use Rattle.std.specs.declared.option.Option.TheVariants.{Some}
 use Rattle.bp_base.specs.declared.point.Point.{Point}
 use Rattle.bp_base.specs.declared.point.Sheet.{Sheet}
 use Rattle.bp_base.specs.declared.point.Sheet.TheVariants.{Square, Strip}

@@ -1,5 +1,5 @@
 -- What inner calls ask for and give: what `design` is asked, an answer before it is written, and the verdict of a check.
-use Rattle.std.specs.Prelude.{◌≡◌, ◌⊎◌, ℕ, ◌<◌, ◌≤◌, List, Bool, true}
+use Rattle.std.specs.Prelude.{◌≡◌, ◌⊎◌, ℕ, ◌<◌, ◌≤◌, List, true}
 use Rattle.std.specs.declared.option.Option.{Option}
 use Rattle.bp_base.specs.declared.point.Sheet.TheVariants.{Square}
 use Rattle.bp_base.specs.Causes.{Appends, AppendsFront}

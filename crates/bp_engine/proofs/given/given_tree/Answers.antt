@@ -1,4 +1,4 @@
-use Rattle.std.proofs.Common.{◌≡◌, List, ℕ, sym, ◌∙◌, subst}
+use Rattle.std.proofs.Common.{List, ℕ, sym, ◌∙◌, subst}
 use Rattle.bp_base.specs.Tree.{TreeValue}
 use Rattle.bp_tree.specs.Faults.{IsTreeFault}
 use Rattle.bp_tree.specs.Text.{TreeOf}
