@@ -2,10 +2,12 @@
 #![tactic(auto)]
 
 mod claim;
+mod counting;
 mod places;
 #[cfg(test)]
 mod tests;
 mod weighing;
 
 pub use claim::claim_holds;
+pub use counting::counted;
 pub use weighing::weight;

@@ -11,7 +11,8 @@ use Rattle.bp_metric.specs.Chains.{ClaimHolds}
 use Rattle.bp_metric.specs.Nodes.{counted}
 use Rattle.bp_check.specs.declared.found.Found.TheVariants.{Sound, WrongChain}
 use Rattle.bp_check.specs.Tests.{claim_passes}
-use Rattle.bp_check.specs.Found.{chain_of, found_claim}
+use Rattle.bp_chain.specs.Counting.{chain_of}
+use Rattle.bp_check.specs.Found.{found_claim}
 use Rattle.bp_check.proofs.Tested.{claim_is}
 
 pub passes_not : (n : ℕ) (path : List Step) (claim : Claim) → (ClaimHolds n path claim → ⊥) → claim_passes n path claim ≡ false

@@ -1,11 +1,8 @@
 -- What is found of nodes in preorder, each judged by itself.
-use Rattle.std.specs.Prelude.{ℕ, nat_lt, ◌+◌, ◌==◌, ◌&&◌, min, List, [], ◌∷◌, length, Option, None, Some, if◌then◌else◌}
+use Rattle.std.specs.Prelude.{ℕ, ◌+◌, ◌==◌, ◌&&◌, min, List, [], ◌∷◌, length, Option, None, Some, if◌then◌else◌}
 use Rattle.bp_base.specs.declared.point.Sheet.{Sheet}
 use Rattle.bp_base.specs.declared.path.Step.{Step}
 use Rattle.bp_base.specs.declared.chain.Claim.{Claim}
-use Rattle.bp_base.specs.declared.chain.Claim.TheVariants.{Walk, Cycle}
-use Rattle.bp_base.specs.declared.point.Axis.{Axis}
-use Rattle.bp_base.specs.declared.point.Axis.TheVariants.{X, Y}
 use Rattle.bp_base.specs.declared.refutation.Refutation.{Refutation}
 use Rattle.bp_base.specs.Tree.{TreeValue, leaf_count}
 use Rattle.bp_metric.specs.Choices.{allowed}
@@ -25,15 +22,6 @@ joined (WrongChain a) (WrongSplit b) = WrongSplit b
 joined (WrongSplit a) (Sound w) = WrongSplit a
 joined (WrongSplit a) (WrongChain b) = WrongSplit a
 joined (WrongSplit a) (WrongSplit b) = WrongSplit (min a b)
-
-abbrev pub chain_of : Claim → List ℕ
-chain_of (Walk axis chain) = chain
-chain_of (Cycle axis chain) = chain
-
--- what a walk of this weight counts with on a strip
-abbrev pub counted_on : Axis → ℕ → ℕ → Option ℕ
-counted_on X width weight = if nat_lt width weight then None else Some 0
-counted_on Y width weight = Some weight
 
 -- what is found of the claim of node k
 abbrev pub found_claim : TreeValue → Sheet → ℕ → List Step → Claim → Found

@@ -1,21 +1,20 @@
 // The stack of open splits, which both calls feed with the nodes of a proof in preorder.
-ghost use Rattle.std.specs.Prelude.{◌≡◌, ◌<◌, ◌+◌, ◌-◌, ◌^◌, ◌++◌, ◌∷◌, [], List, length, not, ◌&&◌, All, None, Some, IsTrue, IfOk, OnOk};
+ghost use Rattle.std.specs.Prelude.{◌≡◌, ◌<◌, ◌+◌, ◌-◌, ◌^◌, ◌++◌, ◌∷◌, [], List, length, not, ◌&&◌, None, Some, IsTrue, IfOk, OnOk};
 ghost use Rattle.bp_base.specs.Path.{IsPairOf};
-ghost use Rattle.bp_base.specs.Tree.{IsLeaf, TreeValue, leaf_count};
+ghost use Rattle.bp_base.specs.Tree.{TreeValue, leaf_count};
 ghost use Rattle.bp_base.specs.declared.point.Sheet.{Sheet as AnySheet};
 ghost use Rattle.bp_base.specs.declared.refutation.Refutation.{Refutation as AnyRefutation};
 ghost use Rattle.bp_document.specs.declared.node_line.NodeLine.{NodeLine as AnyLine};
-ghost use Rattle.bp_metric.specs.Nodes.{counted};
 ghost use Rattle.bp_document.specs.declared.node_line.NodeKind.TheVariants.{Closed as ClosedKind, Split as SplitKind};
-ghost use Rattle.bp_check.specs.Found.{chain_of, counted_on, found_claim};
+ghost use Rattle.bp_check.specs.Found.{found_claim};
 ghost use Rattle.bp_check.specs.Stack.{HasTaken, IsStack, KeepsWithin, closed, empty_stack, entered, fed, found_count, is_wrong, joined_claim, opened, stack_of, step_of, with_child, with_claim, with_split};
 ghost use Rattle.bp_document.specs.Told.{node_list};
 ghost use Rattle.bp_check.specs.Verdicts.{IsFoundOf};
 ghost use Rattle.bp_check.specs.Tests.{may_split, stands_on};
 
 use crate::found::{Found, joined};
-use bp_base::{Axis, Choice, Claim, MOST_STEPS, NoMemory, Pair, Path, Sequence, Sheet, Step};
-use bp_chain::{claim_holds, weight};
+use bp_base::{Choice, Claim, MOST_STEPS, NoMemory, Pair, Path, Sequence, Step};
+use bp_chain::{claim_holds, counted};
 use bp_document::{NodeKind, NodeLine};
 use bp_metric::Metric;
 use bp_pairs::allowed;
@@ -277,30 +276,6 @@ fn found_claim(metric: &Metric, node: u64, path: &Path, claim: &Claim) -> Found
         }
     } else {
         Found::WrongChain { node }
-    }
-}
-
-// What the claim counts with: a walk with its weight; on a strip a walk on x with 0, or not at all where it is wider than the strip.
-fn counted(metric: &Metric, claim: &Claim) -> Option<u64>
-    requires { All (IsLeaf metric.now.tree) (chain_of claim.now) }
-    ensures { result ≡ counted metric.now.tree metric.now.sheet claim.now }
-{
-    match (claim, metric.sheet()) {
-        (Claim::Cycle { .. }, _) => None,
-        (Claim::Walk { chain, .. }, Sheet::Square) => Some(weight(metric, chain)),
-        (Claim::Walk { axis, chain }, Sheet::Strip { width }) => {
-            counted_on(*axis, width, weight(metric, chain))
-        }
-    }
-}
-
-fn counted_on(axis: Axis, width: u64, weight: u64) -> Option<u64>
-    ensures { result ≡ counted_on axis width weight }
-{
-    match axis {
-        Axis::Y => Some(weight),
-        Axis::X if width < weight => None,
-        Axis::X => Some(0),
     }
 }
 

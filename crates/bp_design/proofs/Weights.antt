@@ -15,7 +15,7 @@ use Rattle.bp_metric.specs.Nodes.{counted, least_of, lesser, weighs}
 use Rattle.bp_metric.specs.Refutation.{CanSplit, EachFits, Fits, extended}
 use Rattle.bp_metric.proofs.Refutations.{fits-split, fits-closed, fits-open}
 use Rattle.bp_symmetry.proofs.Least.{weighs-split, weighs-closed, weighs-open}
-use Rattle.bp_check.specs.Found.{chain_of}
+use Rattle.bp_chain.specs.Counting.{chain_of}
 use Rattle.bp_check.proofs.Claims.{leaves_of}
 use Rattle.bp_check.proofs.Joined.{lesser_none, lesser_assoc}
 use Rattle.bp_design.specs.Searched.{FitsSome}

@@ -9,3 +9,6 @@ mod state;
 pub use event::{Event, Took};
 pub use place::Place;
 pub use state::State;
+
+#[cfg(test)]
+mod tests;
