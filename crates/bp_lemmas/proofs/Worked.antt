@@ -1,5 +1,5 @@
 -- Worked rows: a certificate of two leaves at distance 3, and what names nothing that is there.
-use Rattle.std.proofs.Common.{◌≡◌, ◌≢◌, ℕ, zero, suc, ◌+◌, IsTrue, [], ◌∷◌, All, refl, arith, inr}
+use Rattle.std.proofs.Common.{◌≢◌, ℕ, zero, suc, ◌+◌, [], ◌∷◌, All, refl, arith, inr}
 use Rattle.std.proofs.lemmas.Bool.{false≢true}
 use Rattle.bp_base.specs.declared.point.Axis.TheVariants.{X}
 use Rattle.bp_base.specs.declared.point.Sheet.TheVariants.{Square}
