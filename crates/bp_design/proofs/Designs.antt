@@ -1,10 +1,11 @@
 -- A tree is designed: by its opening where that meets its floor, or else by a search.
-use Rattle.std.proofs.Common.{◌≡◌, inl, inr, ℕ, ◌≤◌, refl, sym, subst, arith}
+use Rattle.std.proofs.Common.{◌≡◌, inl, inr, ℕ, ◌≤◌, length, refl, sym, subst, arith}
 use Rattle.std.specs.Prelude.{None}
 use Rattle.std.proofs.lemmas.Bool.{cases_lt, false≢true}
 use Rattle.bp_base.specs.declared.point.Floor.{Floor}
 use Rattle.bp_base.specs.declared.point.Placement.{Placement}
 use Rattle.bp_base.specs.declared.point.Sheet.{Sheet}
+use Rattle.bp_base.specs.Limits.{most_document_bytes}
 use Rattle.bp_base.specs.Tree.{TreeValue, IsTree}
 use Rattle.bp_metric.specs.Metric.{IsMetric, IsSheet, MetricValue}
 use Rattle.bp_metric.specs.Valid.{Valid, NoneBelow}
@@ -14,6 +15,7 @@ use Rattle.bp_opening.specs.Small as opening
 use Rattle.bp_floor.specs.Small as floor
 use Rattle.bp_document.specs.declared.document.Document.{Document}
 use Rattle.bp_document.specs.Ranges.{IsDocument}
+use Rattle.bp_document.specs.Text.{doc_text}
 use Rattle.bp_check.specs.Checks.{Checks}
 use Rattle.bp_check.specs.Written.{IsWanted}
 use Rattle.bp_design.specs.Design.{IsDesign}
@@ -67,7 +69,7 @@ module _ (T : TreeValue) (G : Sheet) (p : Placement) (f : Floor) (o : IsOpening 
     }
 
 -- what is known of documents that check
-module _ (M : MetricValue) (none : (D : Document) → D.sheet ≡ M.sheet → Checks M.tree D → NoneBelow M.tree D.sheet D.bound) (bound : (D : Document) → D.sheet ≡ M.sheet → Checks M.tree D → D.bound ≤ D.side) (wanted : (D : Document) → D.sheet ≡ M.sheet → Checks M.tree D → D.bound ≡ D.side → IsWanted M.tree D.sheet D.side) where
+module _ (M : MetricValue) (none : (D : Document) → D.sheet ≡ M.sheet → Checks M.tree D → NoneBelow M.tree D.sheet D.bound) (bound : (D : Document) → D.sheet ≡ M.sheet → Checks M.tree D → D.bound ≤ D.side) (wanted : (D : Document) → D.sheet ≡ M.sheet → Checks M.tree D → D.bound ≡ D.side → IsWanted M.tree D.sheet D.side) (short : (T : TreeValue) (D : Document) → IsDocument D → Checks T D → length (doc_text D) ≤ most_document_bytes) where
   pub is_design : (B : ℕ) (D : Document) → IsSearched M.tree M.sheet B D → IsDesign M.tree M.sheet B D
   is_design B D s = record {
     proved = record {
@@ -75,6 +77,7 @@ module _ (M : MetricValue) (none : (D : Document) → D.sheet ≡ M.sheet → Ch
       sheet = s.sheet;
       ranges = s.ranges;
       checks = s.written.checks;
+      short = short M.tree D s.ranges s.written.checks;
       no_more = bound D s.sheet s.written.checks;
       none_below = subst (λ (g : Sheet). NoneBelow M.tree g D.bound) s.sheet (none D s.sheet s.written.checks);
       smallest = λ same. subst (λ (g : Sheet). IsWanted M.tree g D.side) s.sheet (wanted D s.sheet s.written.checks same);

@@ -1,23 +1,26 @@
 -- A design: what it proves to whoever reads it, and how the search of this crate writes it.
-use Rattle.std.specs.Prelude.{◌≡◌, ℕ, ◌<◌, ◌≤◌, false, Some}
+use Rattle.std.specs.Prelude.{◌≡◌, ℕ, ◌<◌, ◌≤◌, length, false, Some}
 use Rattle.bp_base.specs.declared.point.Sheet.{Sheet}
 use Rattle.bp_base.specs.declared.refutation.Refutation.{Refutation}
+use Rattle.bp_base.specs.Limits.{most_document_bytes}
 use Rattle.bp_base.specs.Tree.{TreeValue}
 use Rattle.bp_metric.specs.Nodes.{nodes_of}
 use Rattle.bp_metric.specs.Stated.{CoversStated}
 use Rattle.bp_metric.specs.Valid.{NoneBelow}
 use Rattle.bp_document.specs.declared.document.Document.{Document}
 use Rattle.bp_document.specs.Ranges.{IsDocument}
+use Rattle.bp_document.specs.Text.{doc_text}
 use Rattle.bp_check.specs.Checks.{Checks}
 use Rattle.bp_check.specs.Written.{IsWanted, IsWritten, examined_count, open_count}
 
--- D is a document of T on this sheet that checks. Its points are valid at its side; no side below its bound has a valid placement, on any
+-- D is a document of T on this sheet that checks, and its text is short enough to be read. Its points are valid at its side; no side below its bound has a valid placement, on any
 -- finer grid either; and where the bound is the side, no smaller sheet will do.
 pub record IsProved (T : TreeValue) (G : Sheet) (D : Document) : Type 0 where
   pub tree : D.tree ≡ T
   pub sheet : D.sheet ≡ G
   pub ranges : IsDocument D
   pub checks : Checks T D
+  pub short : length (doc_text D) ≤ most_document_bytes
   pub no_more : D.bound ≤ D.side
   pub none_below : NoneBelow T G D.bound
   pub smallest : D.bound ≡ D.side → IsWanted T G D.side

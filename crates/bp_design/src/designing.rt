@@ -5,7 +5,7 @@ ghost use Rattle.bp_design.specs.Design.{IsDesign};
 
 use crate::searched::searched;
 use bp_base::NoMemory;
-use bp_check::law_of_checks;
+use bp_check::{law_of_checked_texts, law_of_checks};
 use bp_document::Document;
 use bp_floor::{floor, law_of_floors};
 use bp_metric::Metric;
@@ -22,6 +22,7 @@ pub fn design(alloc: Global, metric: &Metric, budget: u64) -> Result<Document, N
     let floor = floor(alloc, metric)?;
     law_of_floors(metric);
     law_of_checks(metric);
+    law_of_checked_texts();
     if opening.side > floor.side {
         return searched(alloc, metric, opening, floor, budget);
     }
