@@ -1,3 +1,4 @@
 mod Steps
 mod Names
 pub mod Bags
+pub mod Pieces

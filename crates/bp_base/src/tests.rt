@@ -294,6 +294,34 @@ fn memory_source(rt: HostRuntime) -> Result<(), Fail> {
     Ok(())
 }
 
+// A source of pieces of 3 bytes, whose call of this number fails.
+fn seven(alloc: Global, failing: u64) -> Result<MemSource, Fail> {
+    Ok(MemSource {
+        bytes: Vec::from_slice(alloc, b"abcdefg")?,
+        at: 0,
+        most: 3,
+        calls: 0,
+        fails: numbers(alloc, &[failing])?,
+        faults: 0,
+    })
+}
+
+#[test]
+fn read_to_end_or_limit(rt: HostRuntime) -> Result<(), Fail> {
+    let alloc = rt.alloc();
+    let rows: [(u64, &[u8]); 4] = [(9, b"abcdefg"), (7, b"abcdefg"), (4, b"abcd"), (0, b"")];
+    for (most, wanted) in rows {
+        let whole = read_whole(alloc, &mut seven(alloc, 9)?, most);
+        assert!(rt;
+            matches!(&whole, Ok(bytes) if bytes.as_slice() == wanted),
+            "{most}"
+        );
+    }
+    let failed = read_whole(alloc, &mut seven(alloc, 2)?, 9);
+    assert!(rt; matches!(&failed, Err(ReadError::Failed)));
+    Ok(())
+}
+
 #[test]
 fn memory_sink(rt: HostRuntime) -> Result<(), Fail> {
     let mut sink = MemSink::new(rt.alloc(), 6, 4, numbers(rt.alloc(), &[2])?)?;

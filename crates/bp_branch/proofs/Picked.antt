@@ -19,6 +19,7 @@ use Rattle.bp_base.specs.declared.point.Sheet.{Sheet}
 use Rattle.bp_base.specs.Path.{IsPairOf}
 use Rattle.bp_base.specs.Tree.{TreeValue, IsTree, leaf_count}
 use Rattle.bp_metric.specs.Chains.{HasCycle}
+use Rattle.bp_metric.specs.Chains.{HasPairsOf}
 use Rattle.bp_metric.specs.Choices.{allowed}
 use Rattle.bp_metric.specs.Next.{IsNextPair}
 use Rattle.bp_metric.specs.Refutation.{extended}
@@ -98,8 +99,8 @@ module _ (T : TreeValue) (t : IsTree T) where
       at_end k here = get_or_at path last [] last k (sym here)
 
   -- different pairs of n leaves are at most as many as there are
-  pub branch_short : (path : List Step) → IsBranch T path → length path ≤ pair_count (leaf_count T)
-  branch_short path b =
+  pub differing_short : (path : List Step) → HasPairsOf (leaf_count T) path → AllPairs (λ (s t : Step). s.pair ≢ t.pair) path → length path ≤ pair_count (leaf_count T)
+  differing_short path of_leaves apart =
       omega (arith, few, length-map path number)
     where
       number : Step → ℕ
@@ -118,15 +119,18 @@ module _ (T : TreeValue) (t : IsTree T) where
       differ : AllPairs (λ a b. a ≢ b) numbers
       differ i j d less within same =
           let long : length numbers ≡ length path = length-map path number in
-          let one = b.pairs i some_step (omega arith) in
-          let other = b.pairs j some_step (omega arith) in
+          let one = of_leaves i some_step (omega arith) in
+          let other = of_leaves j some_step (omega arith) in
           let equal : number (get_or path i some_step) ≡ number (get_or path j some_step) =
           sym (numbered i d (omega arith)) ∙ same ∙ numbered j d (omega arith) in
-          b.differ i j some_step less (omega arith) (one_pair (leaf_count T) (get_or path i some_step).pair (get_or path j some_step).pair one other equal)
+          apart i j some_step less (omega arith) (one_pair (leaf_count T) (get_or path i some_step).pair (get_or path j some_step).pair one other equal)
 
       below : All (λ k. k < pair_count (leaf_count T)) numbers
-      below = All-map (λ k. k < pair_count (leaf_count T)) number path (λ k d less. number_below (leaf_count T) (get_or path k d).pair (b.pairs k d less))
+      below = All-map (λ k. k < pair_count (leaf_count T)) number path (λ k d less. number_below (leaf_count T) (get_or path k d).pair (of_leaves k d less))
 
       few : length numbers ≤ pair_count (leaf_count T)
       few =
           length-le_from_distinct_below numbers (pair_count (leaf_count T)) (IsDistinct-from_AllPairs Decides-eqb numbers differ) (λ q there. let c = Contains-from_any (λ x y e. eqb-true x y e) q numbers there in subst (λ (i : ℕ). i < pair_count (leaf_count T)) c.2 (below c.0 q c.1))
+
+  pub branch_short : (path : List Step) → IsBranch T path → length path ≤ pair_count (leaf_count T)
+  branch_short path b = differing_short path b.pairs b.differ

@@ -1,5 +1,5 @@
 -- The claims of a document that checks name leaves of its tree, so its text is short enough to be read.
-use Rattle.std.proofs.Common.{◌≡◌, ℕ, ◌≤◌, List, [], ◌∷◌, length, All, Option, None, Some, sym, subst}
+use Rattle.std.proofs.Common.{List, [], ◌∷◌, length, All, Option, None, Some, sym, subst}
 use Rattle.std.specs.List.{flat_map, AllByRecursion}
 use Rattle.std.proofs.lemmas.List.Elements.{All-append, All-cons, All-nil}
 use Rattle.bp_base.specs.declared.chain.Claim.{Claim}
@@ -9,7 +9,7 @@ use Rattle.bp_base.specs.declared.path.Pair.{Pair}
 use Rattle.bp_base.specs.declared.path.Step.{Step}
 use Rattle.bp_base.specs.declared.point.Sheet.{Sheet}
 use Rattle.bp_base.specs.declared.refutation.Refutation.{Refutation}
-use Rattle.bp_base.specs.declared.refutation.Refutation.TheVariants.{Split, Closed, Open}
+use Rattle.bp_base.specs.declared.refutation.Refutation.TheVariants.{Split}
 use Rattle.bp_base.specs.Tree.{TreeValue, leaf_count}
 use Rattle.bp_metric.specs.Choices.{allowed}
 use Rattle.bp_metric.specs.Chains.{ClaimHolds}

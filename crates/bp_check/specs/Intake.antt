@@ -10,11 +10,9 @@ use Rattle.bp_document.specs.Places.{StartsThen}
 use Rattle.bp_document.specs.Scanning.{HasFed, IsUnbroken, IsFaultBehind, IsDocumentFed}
 use Rattle.bp_document.specs.Stages.{told_head}
 use Rattle.bp_check.specs.declared.intake.Intake.{Intake}
-use Rattle.bp_check.specs.declared.fault.CheckFault.{CheckFault}
-use Rattle.bp_check.specs.declared.fault.CheckFault.TheVariants.{Doc, Read, NoMemory}
 use Rattle.bp_check.specs.declared.fault.Streamed.{Streamed}
 use Rattle.bp_check.specs.Stack.{HasTaken}
-use Rattle.bp_check.specs.Streams.{ChecksText, HasRead, IsRefused, Told, most_read}
+use Rattle.bp_check.specs.Streams.{ChecksText, IsRefused}
 use Rattle.bp_check.specs.Held.{most_held}
 
 -- the text begins as one for this sheet
@@ -81,17 +79,3 @@ EndsIntake p q (Err f) = (T : TreeValue) (bytes : List ℕ) → HasTakenIn T p b
 abbrev pub AnswersText : TreeValue → List ℕ → Result Streamed DocFault → Type 0
 AnswersText T bytes (Ok s) = ChecksText T bytes s
 AnswersText T bytes (Err f) = IsRefused bytes f
-
--- the answer is no fault of a document
-abbrev pub IsNoDoc : CheckFault → Type 0
-IsNoDoc (Doc f) = ⊥
-IsNoDoc Read = Unit {0}
-IsNoDoc NoMemory = Unit {0}
-
--- all bytes were read, or one past the limit
-abbrev pub IsReadTo : Option (List ℕ) → Option (List ℕ) → List ℕ → Type 0
-IsReadTo left after bytes = HasRead left after bytes × ((length bytes ≡ most_read) ⊎ ((length bytes ≤ most_read) × Told left (λ b. length b ≡ length bytes)))
-
--- So many bytes more were taken in, which are all, or one more than the limit.
-abbrev pub HasTakenAll : Intake → Intake → Option (List ℕ) → Option (List ℕ) → ℕ → Type 0
-HasTakenAll p q left after count = (bytes : List ℕ) × (length bytes ≡ count) × IsReadTo left after bytes × Takes p q bytes

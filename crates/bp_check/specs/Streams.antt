@@ -1,8 +1,9 @@
 -- What a check in one pass answers for a source.
-use Rattle.std.specs.Prelude.{◌≡◌, ◌↔◌, ℕ, ◌+◌, List, [], length, take, drop, Result, Ok, Err}
+use Rattle.std.specs.Prelude.{◌≡◌, ◌↔◌, ℕ, ◌+◌, List, [], take, drop, Result, Ok, Err}
 use Rattle.std.specs.declared.option.Option.{Option}
-use Rattle.std.specs.declared.option.Option.TheVariants.{None, Some}
+use Rattle.std.specs.declared.option.Option.TheVariants.{Some}
 use Rattle.bp_base.specs.Limits.{most_document_bytes}
+use Rattle.bp_base.specs.Reading.{Told}
 use Rattle.bp_base.specs.Tree.{TreeValue}
 use Rattle.bp_document.specs.declared.document.Document.{Document}
 use Rattle.bp_document.specs.declared.fault.DocFault.{DocFault}
@@ -14,16 +15,6 @@ use Rattle.bp_check.specs.declared.verdict.Reason.{Reason}
 use Rattle.bp_check.specs.declared.verdict.Verdict.TheVariants.{Yes, No}
 use Rattle.bp_check.specs.Checks.{Checks}
 use Rattle.bp_check.specs.Reasons.{IsFirstReason}
-
--- P holds of the bytes, where they are told
-abbrev pub Told : Option (List ℕ) → (List ℕ → Type 0) → Type 0
-Told None P = Unit {0}
-Told (Some bytes) P = P bytes
-
--- these bytes were read of what was left, where that is told
-abbrev pub HasRead : Option (List ℕ) → Option (List ℕ) → List ℕ → Type 0
-HasRead None now bytes = now ≡ None
-HasRead (Some left) now bytes = (now ≡ Some (drop (length bytes) left)) × (bytes ≡ take (length bytes) left)
 
 -- one byte more than a document has at most, by which a longer input is known
 abbrev pub most_read : ℕ

@@ -16,7 +16,7 @@ use crate::found::Found;
 use crate::held::HeldLine;
 use crate::stack::Stack;
 use crate::verdict::Verdict;
-use bp_base::{MOST_DOCUMENT_BYTES, NoMemory, Tree};
+use bp_base::{MOST_DOCUMENT_BYTES, NoMemory, TakesBytes, Tree};
 use bp_document::{
     DocFault, DocKind, Head, NodeLine, Scanner, law_of_long_lines, law_of_one_answer,
 };
@@ -51,21 +51,6 @@ impl Intake {
             held: HeldLine::empty(),
             fault: None,
         })
-    }
-
-    /// Takes the next bytes. After a fault they are passed over.
-    pub fn take(&mut self, bytes: &[u8]) -> Result<(), NoMemory>
-        requires underway { IsUnderway self.old }
-        ensures underway { OnOk result (IsUnderway self.new) }
-        ensures taken { OnOk result (Takes self.old self.new bytes.now) }
-    {
-        let mut at = 0;
-        while let Some(here) = line(bytes, at) {
-            let part = &bytes[here.from as usize..here.to as usize];
-            self.take_part(part, here.ended)?;
-            at = here.next;
-        }
-        Ok(())
     }
 
     // Takes a part of a line, and its LF where it is there.
@@ -181,6 +166,23 @@ impl Intake {
                 bound: head.bound,
             },
         }
+    }
+}
+
+impl TakesBytes for Intake {
+    ghost is_open = { λ p. IsUnderway p };
+
+    ghost takes = { λ p bytes q. Takes p q bytes };
+
+    // After a fault the bytes are passed over.
+    fn take(&mut self, bytes: &[u8]) -> Result<(), NoMemory> {
+        let mut at = 0;
+        while let Some(here) = line(bytes, at) {
+            let part = &bytes[here.from as usize..here.to as usize];
+            self.take_part(part, here.ended)?;
+            at = here.next;
+        }
+        Ok(())
     }
 }
 

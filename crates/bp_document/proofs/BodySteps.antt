@@ -12,7 +12,7 @@ use Rattle.bp_document.specs.declared.stage.Parts.{Parts}
 use Rattle.bp_document.specs.declared.stage.Stage.{Stage}
 use Rattle.bp_document.specs.Lines.{line, point_line}
 use Rattle.bp_document.specs.Text.{edge_lines, point_lines}
-use Rattle.bp_document.specs.Ranges.{IsSmallPoint}
+use Rattle.bp_base.specs.Point.{IsSmallPoint}
 use Rattle.bp_document.specs.Words.{words}
 use Rattle.bp_document.specs.FormWords.{ReadsField}
 use Rattle.bp_document.specs.Places.{AtSide, AtBound, side_part}

@@ -17,7 +17,7 @@ use Rattle.bp_document.specs.declared.stage.Parts.{Parts}
 use Rattle.bp_document.specs.declared.stage.Stage.{Stage}
 use Rattle.bp_document.specs.Lines.{line, point_line, floor_line}
 use Rattle.bp_document.specs.Text.{point_lines}
-use Rattle.bp_document.specs.Ranges.{IsSmallPoint}
+use Rattle.bp_base.specs.Point.{IsSmallPoint}
 use Rattle.bp_document.specs.Words.{words}
 use Rattle.bp_document.specs.Forms.{IsFloorForm, IsProofForm, proof_line}
 use Rattle.bp_document.specs.FormWords.{ReadsFloorForm, ReadsProofForm}

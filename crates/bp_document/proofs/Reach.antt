@@ -23,7 +23,7 @@ use Rattle.bp_document.specs.declared.head.Head.{Head}
 use Rattle.bp_document.specs.declared.node_line.NodeLine.{NodeLine}
 use Rattle.bp_document.specs.Lines.{line, sheet_line, point_line}
 use Rattle.bp_document.specs.Text.{edge_lines, point_lines}
-use Rattle.bp_document.specs.Ranges.{IsSmallPoint}
+use Rattle.bp_base.specs.Point.{IsSmallPoint}
 use Rattle.bp_document.specs.Forms.{IsLine, IsEdgeCount, IsEdgeForm, IsPointForm, edge_text, version_line, end_line}
 use Rattle.bp_document.specs.FormWords.{sheet_words}
 use Rattle.bp_document.specs.NodeWords.{kind_words}

@@ -26,7 +26,8 @@ use Rattle.bp_metric.specs.Nodes.{Part, SplitOf, ClosedBy, OpenBy, parts_of, nod
 use Rattle.bp_metric.proofs.Refutations.{parts-split, parts-closed, parts-open}
 use Rattle.bp_document.specs.declared.document.Document.{Document}
 use Rattle.bp_document.specs.Lines.{word, line, sheet_line, edge_line, point_line, floor_line, axis_word, chain_words, split_line, closed_line, open_line}
-use Rattle.bp_document.specs.Ranges.{IsDocument, IsSmallPoint, IsFloorLine, IsSmallPart, IsChainOf, HasProof, one_deeper, depth_of}
+use Rattle.bp_base.specs.Point.{IsSmallPoint}
+use Rattle.bp_document.specs.Ranges.{IsDocument, IsFloorLine, IsSmallPart, IsChainOf, HasProof, one_deeper, depth_of}
 use Rattle.bp_document.specs.Sizes.{IsClaimUpTo, IsPartUpTo, IsProofUpTo, NamesLeaves}
 use Rattle.bp_document.specs.Text.{doc_text, body_text, edge_lines, point_lines, proof_lines, node_lines}
 use Rattle.bp_document.proofs.Nodes.{lines_at, lines-split, lines-closed, lines-open, depth-split}

@@ -10,7 +10,7 @@ use Rattle.bp_tree.specs.declared.edge.Edge.{Edge}
 use Rattle.bp_document.specs.declared.form.FloorForm.{FloorForm}
 use Rattle.bp_document.specs.declared.form.PointForm.{PointForm}
 use Rattle.bp_document.specs.Forms.{IsProofCount}
-use Rattle.bp_document.specs.Ranges.{IsSmallPoint}
+use Rattle.bp_base.specs.Point.{IsSmallPoint}
 
 -- What reading words answers, each time exactly.
 abbrev pub ReadsNumber : ℕ → ℕ → List ℕ → Option ℕ → Type 0

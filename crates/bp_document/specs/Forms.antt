@@ -8,7 +8,8 @@ use Rattle.bp_base.specs.Name.{IsName}
 use Rattle.bp_metric.specs.Metric.{IsSheet}
 use Rattle.bp_tree.specs.declared.edge.Edge.{Edge}
 use Rattle.bp_document.specs.Lines.{line, sheet_line, point_line, floor_line}
-use Rattle.bp_document.specs.Ranges.{IsSmallPoint, IsFloorLine}
+use Rattle.bp_base.specs.Point.{IsSmallPoint}
+use Rattle.bp_document.specs.Ranges.{IsFloorLine}
 
 -- the bytes are this line
 abbrev pub IsLine : List ℕ → List ℕ → Type 0

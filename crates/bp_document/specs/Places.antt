@@ -14,7 +14,8 @@ use Rattle.bp_document.specs.declared.node_line.NodeKind.TheVariants.{Split, Clo
 use Rattle.bp_document.specs.declared.node_line.NodeLine.{NodeLine}
 use Rattle.bp_document.specs.Lines.{line, sheet_line, floor_line}
 use Rattle.bp_document.specs.Text.{edge_lines, point_lines}
-use Rattle.bp_document.specs.Ranges.{IsSmallPoint, IsFloorLine}
+use Rattle.bp_base.specs.Point.{IsSmallPoint}
+use Rattle.bp_document.specs.Ranges.{IsFloorLine}
 use Rattle.bp_document.specs.Nodes.{IsKindOfNumbers, node_text}
 use Rattle.bp_document.specs.Forms.{version_line, edge_text, proof_line, end_line, IsEdgeCount, IsProofCount}
 

@@ -8,6 +8,7 @@ use Rattle.bp_base.specs.declared.refutation.Refutation.{Refutation, fold-Refuta
 use Rattle.bp_base.specs.declared.refutation.Refutation.TheOpen.{Refutation-F}
 use Rattle.bp_base.specs.Limits.{most_number, most_proof_lines, most_steps}
 use Rattle.bp_base.specs.Chain.{IsChainList}
+use Rattle.bp_base.specs.Point.{IsSmallPoint}
 use Rattle.bp_base.specs.Tree.{IsTree, leaf_count}
 use Rattle.bp_metric.specs.Metric.{IsSheet}
 use Rattle.bp_metric.specs.Nodes.{Part, SplitOf, ClosedBy, OpenBy, parts_of, node_count_of}
@@ -26,9 +27,6 @@ depth_at (Refutation-F.Open claim) = 0
 -- the greatest depth of a node; the root has depth 0
 unfoldable pub depth_of : Refutation → ℕ
 depth_of r = fold-Refutation ℕ depth_at r
-
-abbrev pub IsSmallPoint : Point → Type 0
-IsSmallPoint p = (p.x ≤ most_number) × (p.y ≤ most_number)
 
 abbrev pub IsChainOf : Claim → Type 0
 IsChainOf (Walk axis chain) = IsChainList chain

@@ -69,6 +69,13 @@ impl Metric {
         &self.tree
     }
 
+    /// Gives its tree back. It takes no memory.
+    pub fn into_tree(self) -> Tree
+        ensures { result ≡ self.tree }
+    {
+        self.tree
+    }
+
     pub fn sheet(&self) -> Sheet
         ensures sheet { result ≡ self.now.sheet }
         ensures metric { IsMetric self.now }

@@ -82,6 +82,7 @@ fn sheets(rt: HostRuntime) -> Result<(), Fail> {
     leaves_apart(&strip);
     twins_alike(&strip);
     radii_apart(&strip);
+    assert_eq!(rt; strip.into_tree().lengths(), tree.lengths());
     Ok(())
 }
 

@@ -14,7 +14,7 @@ use Rattle.bp_tree.specs.Lines.{lines_of, words_of, rows}
 use Rattle.bp_tree.specs.Edges.{HasEdges, root_children}
 use Rattle.bp_tree.specs.Json.{is_json}
 use Rattle.bp_tree.specs.Text.{GivesIn, GivesEdges}
-use Rattle.bp_tree.specs.Faults.{HasKind, HasElementKind, IsRow, IsFirstFault, IsFirstElementFault, IsFirstIn, IsTreeFault, FaultIn, Makes, ReadsTree, IsOnlyAnswer, order}
+use Rattle.bp_tree.specs.Faults.{HasKind, HasElementKind, IsRow, IsFirstFault, IsFirstElementFault, IsFirstIn, IsTreeFault, FaultIn, Makes, AnswersBytes, IsOnlyAnswer, order}
 use Rattle.bp_tree.specs.Reading.{ReadsEdges}
 use Rattle.bp_tree.proofs.Growth.{edge_count}
 use Rattle.bp_tree.proofs.Rows.{rows_append, rows_cons}
@@ -212,7 +212,7 @@ one_fault bytes f g first second =
     λ i. record { line = line i; kind = kind i }
 
 -- what is answered where the edges end with a fault
-pub stopped : (bytes : List ℕ) (T : TreeValue) (e : ReadTree) → length bytes ≤ most_tree_bytes → ReadsEdges (is_json bytes) bytes T (Err e) → ReadsTree bytes (Err e) × IsOnlyAnswer bytes (Err e)
+pub stopped : (bytes : List ℕ) (T : TreeValue) (e : ReadTree) → length bytes ≤ most_tree_bytes → ReadsEdges (is_json bytes) bytes T (Err e) → AnswersBytes bytes (Err e) × IsOnlyAnswer bytes (Err e)
 stopped bytes T (Fault f) short first =
     let fault : IsTreeFault bytes f = early_fault bytes f.line f.kind short first in
     ((fault, no_tree bytes f fault), λ g. one_fault bytes f g fault)

@@ -154,10 +154,10 @@ abbrev pub IsNoTree : List ℕ → Type 0
 IsNoTree bytes = (T : TreeValue) → TreeOf bytes T → ⊥
 
 -- What reading answers: the tree of the bytes, or their first fault, and then they are of no tree.
-abbrev pub ReadsTree : List ℕ → Result TreeValue ReadTree → Type 0
-ReadsTree bytes (Ok T) = TreeOf bytes T
-ReadsTree bytes (Err (Fault f)) = IsTreeFault bytes f × IsNoTree bytes
-ReadsTree bytes (Err NoMemory) = Unit
+abbrev pub AnswersBytes : List ℕ → Result TreeValue ReadTree → Type 0
+AnswersBytes bytes (Ok T) = TreeOf bytes T
+AnswersBytes bytes (Err (Fault f)) = IsTreeFault bytes f × IsNoTree bytes
+AnswersBytes bytes (Err NoMemory) = Unit
 
 -- No other tree and no other fault is that of the bytes.
 abbrev pub IsOnlyAnswer : List ℕ → Result TreeValue ReadTree → Type 0

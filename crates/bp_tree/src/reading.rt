@@ -1,6 +1,6 @@
 ghost use Rattle.std.specs.Prelude.{◌≡◌};
 ghost use Rattle.bp_tree.specs.Edges.{IsGrowing};
-ghost use Rattle.bp_tree.specs.Faults.{IsOnlyAnswer, ReadsTree};
+ghost use Rattle.bp_tree.specs.Faults.{IsOnlyAnswer, AnswersBytes};
 ghost use Rattle.bp_tree.specs.Calls.{AddsLine, ReadsLines};
 ghost use Rattle.bp_tree.specs.Growing.{no_nodes};
 ghost use Rattle.bp_tree.specs.Reading.{ReadsEdges};
@@ -17,7 +17,7 @@ use std::alloc::Global;
 
 /// The tree of bytes in lines or in the JSON form. A fault is the first one, and comes exactly where the bytes are those of no tree.
 pub fn read_tree(alloc: Global, bytes: &[u8]) -> Result<Tree, ReadTree>
-    ensures reads { ReadsTree bytes.now result }
+    ensures reads { AnswersBytes bytes.now result }
     ensures only { IsOnlyAnswer bytes.now result }
 {
     if bytes.len() as u64 > MOST_TREE_BYTES {

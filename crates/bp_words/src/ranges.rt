@@ -10,10 +10,10 @@ pub const USUAL_HANDS: u64 = 4;
 /// The budget of a search where the words give none, in branches examined.
 pub const USUAL_BUDGET: u64 = 50_000;
 
-/// The greatest budget of `solve`, in branches examined.
+/// The greatest budget of `solve`, in lemmas learned.
 pub const MOST_SOLVE_BUDGET: u64 = 1_000_000;
 
-/// The budget of `solve` where the words give none.
+/// The budget of `solve` where the words give none, in lemmas learned.
 pub const USUAL_SOLVE_BUDGET: u64 = 100_000;
 
 /// The fewest leaves of a made tree.

@@ -1,6 +1,6 @@
 use Rattle.std.proofs.Common.{◌≤◌, ◌-◌, take, length}
 use Rattle.bp_check.specs.Intake.{IsUnderway, Takes}
-use Rattle.bp_check.proofs.intake.Intake.take.Given as goal
+use Rattle.bp_check.proofs.intake.IntakeTakesBytes.take.Given as goal
 
 abbrev pub invariant-loop-here : goal.invariant-loop-here
 invariant-loop-here l = (l.at ≤ length l.bytes) × IsUnderway l.self × Takes l.fn.self l.self (take l.at l.bytes)
