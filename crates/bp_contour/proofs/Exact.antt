@@ -17,7 +17,7 @@ use Rattle.bp_contour.proofs.Listing.{run_within, some_cell}
 use Rattle.bp_contour.proofs.Scaled.{AreSteps, Lies}
 use Rattle.bp_contour.proofs.Tables.{cuts_rise, held_within}
 
-steps_from : (R : RegionsValue) (axis : Axis) (cuts : List ℕ) (n : ℕ) → AreCutsOf R axis cuts → n ≡ length cuts - 1 → AreSteps (λ k. get_or cuts k 0) n R.side
+pub steps_from : (R : RegionsValue) (axis : Axis) (cuts : List ℕ) (n : ℕ) → AreCutsOf R axis cuts → n ≡ length cuts - 1 → AreSteps (λ k. get_or cuts k 0) n R.side
 steps_from R axis cuts n h long = record {
   first = h.first;
   last = ap (λ (k : ℕ). get_or cuts k 0) long ∙ h.last;
@@ -43,7 +43,7 @@ on_grid C columns rows rs width height are k less =
     (omega (arith, x, a, width), omega (arith, y, b, height))
 
 module _ (R : RegionsValue) (e : ℕ) (edge : IsEdge R.tree e) (columns rows : List ℕ) (xs : AreCutsOf R X columns) (ys : AreCutsOf R Y rows) (C : TableValue) (table : IsTable R e columns rows C) where
-  same_cells : (a b x y : ℕ) → Lies (λ m. get_or columns m 0) C.width a x → Lies (λ m. get_or rows m 0) C.height b y → (Reach R.tree R.side R.points e x y ↔ Holds C a b)
+  pub same_cells : (a b x y : ℕ) → Lies (λ m. get_or columns m 0) C.width a x → Lies (λ m. get_or rows m 0) C.height b y → (Reach R.tree R.side R.points e x y ↔ Holds C a b)
   same_cells a b x y at_x at_y =
       let on_x = (xs.alike x (get_or columns a 0) y (together columns C.width a x table.width at_x)).reach e edge in
       let on_y = (ys.alike (get_or columns a 0) y (get_or rows b 0) (together rows C.height b y table.height at_y)).reach e edge in

@@ -3,10 +3,11 @@ mod Ahead
 mod Assembled
 mod Corners
 mod Directed
-mod Exact
+pub mod Exact
 mod Followed
 pub mod Known
 mod Listing
+mod Plain
 mod Plane
 pub mod Scaled
 mod Stretches

@@ -8,7 +8,7 @@ use Rattle.bp_contour.specs.declared.way.Way.{Way}
 use Rattle.bp_contour.specs.declared.way.Way.TheVariants.{East, North, West, South}
 use Rattle.bp_contour.specs.Listed.{AreRising, AreRuns, AreRunsUpTo, Follows, IsFound, StandsBefore, Turns, no_run, run_at}
 use Rattle.bp_contour.specs.Table.{Holds, TableValue, bit}
-use Rattle.bp_contour.specs.Ways.{Begins, Leaves, RunBy, left_of, number_of, right_of}
+use Rattle.bp_contour.specs.Ways.{Begins, BeginsNone, Leaves, RunBy, left_of, number_of, right_of}
 use Rattle.bp_contour.proofs.Corners.{leads_on, must_turn, run_arrives, run_begins, run_ends, same_point}
 use Rattle.bp_contour.proofs.Tables.{held_within}
 
@@ -164,6 +164,11 @@ module _ (In : ℕ → ℕ → Type 0) where
   pub point_done : (rs : List Run) (y x : ℕ) → AreRunsUpTo In y x 4 rs → AreRunsUpTo In y (x + 1) 0 rs
   point_done rs y x h =
       moved rs y x 4 y (x + 1) 0 h (point_there y x) (λ w p q run. point_back y x p.y p.x (number_of w) (number_small w))
+
+  -- past a point where no run begins
+  pub plain_done : (rs : List Run) (p : Point) → AreRunsUpTo In p.y p.x 0 rs → BeginsNone In p → AreRunsUpTo In p.y (p.x + 1) 0 rs
+  plain_done rs p h none =
+      point_done rs p.y p.x (runs_same rs South p (runs_same rs West p (runs_same rs North p (runs_same rs East p h (none East)) (none North)) (none West)) (none South))
 
   module _ (width height : ℕ) (bound : (w : Way) (p q : Point) → RunBy In w p q → (p.x ≤ width) × (p.y ≤ height)) where
     line_there : (y x b a c : ℕ) → StandsBefore b a c y x 0 → StandsBefore b a c (y + 1) 0 0

@@ -62,6 +62,10 @@ Arrives In South p = GoesSouth In p.x p.y
 abbrev pub Begins : (ℕ → ℕ → Type 0) → Way → Point → Type 0
 Begins In way p = Leaves In way p × (Arrives In way p → ⊥)
 
+-- no run begins at the point
+abbrev pub BeginsNone : (ℕ → ℕ → Type 0) → Point → Type 0
+BeginsNone In p = (way : Way) → Begins In way p → ⊥
+
 -- a run that goes this way leads from p to q
 abbrev pub RunBy : (ℕ → ℕ → Type 0) → Way → Point → Point → Type 0
 RunBy In East p q = IsEastRun In p q

@@ -43,6 +43,9 @@ fn add_point(runs: &mut Vec<Run>, cells: &Cells, at: Point) -> Result<(), NoMemo
     requires { AreRunsUpTo (Holds cells.now) at.y at.x 0 runs.old.items }
     ensures { OnOk result (AreRunsUpTo (Holds cells.now) at.y (at.x + 1) 0 runs.new.items) }
 {
+    if cells.is_plain(at) {
+        return Ok(());
+    }
     add_way(runs, cells, at, Way::East)?;
     add_way(runs, cells, at, Way::North)?;
     add_way(runs, cells, at, Way::West)?;

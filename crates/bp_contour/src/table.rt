@@ -1,11 +1,11 @@
 // A table of cells, one for each pair of neighbouring cuts of both axes.
-ghost use Rattle.std.specs.Prelude.{◌≡◌, ◌+◌, ◌-◌, ◌*◌, ◌^◌, ◌<◌, ◌↔◌, length, IsTrue, IfOk, OnOk};
+ghost use Rattle.std.specs.Prelude.{◌≡◌, ◌+◌, ◌-◌, ◌*◌, ◌^◌, ◌<◌, ◌≤◌, ◌↔◌, length, IsTrue, IfOk, OnOk};
 ghost use Rattle.bp_base.specs.declared.point.Axis.TheVariants.{X, Y};
 ghost use Rattle.bp_base.specs.Tree.{IsEdge};
 ghost use Rattle.bp_regions.specs.Runs.{Below, Beside};
 ghost use Rattle.bp_regions.specs.Cuts.{AreCutsOf};
 ghost use Rattle.bp_contour.specs.Table.{AddsRow, Holds, IsTable};
-ghost use Rattle.bp_contour.specs.Ways.{Arrives, Begins, CanStep, GoesBy, Leaves, RunBy, step_on};
+ghost use Rattle.bp_contour.specs.Ways.{Arrives, Begins, BeginsNone, CanStep, GoesBy, Leaves, RunBy, step_on};
 
 use crate::way::Way;
 use bp_base::{NoMemory, Point};
@@ -114,6 +114,24 @@ impl Cells {
         x > 0 && self.holds(x - 1, y)
     }
 
+    // Whether the table holds the cell on the left of the one below.
+    fn across(&self, x: u64, y: u64) -> bool
+        ensures { IsTrue result ↔ ((1 ≤ x) × Below (Holds self.now) (x - 1) y) }
+    {
+        x > 0 && self.below(x - 1, y)
+    }
+
+    // Whether the four cells round the point are alike: then no run begins there. Most points of a table are so.
+    pub(crate) fn is_plain(&self, at: Point) -> bool
+        ensures { IsTrue result → BeginsNone (Holds self.now) at }
+    {
+        let here = self.holds(at.x, at.y);
+        let beside = self.beside(at.x, at.y);
+        let below = self.below(at.x, at.y);
+        let across = self.across(at.x, at.y);
+        are_alike(here, beside, below, across)
+    }
+
     // Whether a unit segment of the boundary goes this way between (x,y) and the next grid point to the right, for North and South
     // above it.
     fn goes(&self, way: Way, x: u64, y: u64) -> bool
@@ -168,6 +186,12 @@ impl Cells {
         }
         end
     }
+}
+
+fn are_alike(here: bool, beside: bool, below: bool, across: bool) -> bool
+    ensures { IsTrue result → (here ≡ beside) × (here ≡ below) × (here ≡ across) }
+{
+    here == beside && here == below && here == across
 }
 
 // The next grid point this way.

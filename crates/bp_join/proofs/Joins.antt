@@ -4,7 +4,7 @@ use Rattle.std.specs.List.{sum_by, flat_map, AllByRecursion, All}
 use Rattle.std.specs.List.Sorted.{IsPermutation}
 use Rattle.std.proofs.lemmas.List.{map-append, append_assoc, append-nil}
 use Rattle.std.proofs.lemmas.List.Elements.{All-from_recursion, recursion_from_All}
-use Rattle.std.proofs.lemmas.List.Sorted.{IsPermutation-map, IsPermutation-reverse, IsPermutation-trans, All-permutation}
+use Rattle.std.proofs.lemmas.List.Sorted.{IsPermutation-append, IsPermutation-append_comm, IsPermutation-map, IsPermutation-reverse, IsPermutation-trans, All-permutation}
 use Rattle.bp_base.specs.declared.chain.Claim.{Claim}
 use Rattle.bp_base.specs.declared.chain.Claim.TheVariants.{Walk, Cycle}
 use Rattle.bp_base.specs.declared.path.Pair.{Pair}
@@ -26,7 +26,8 @@ use Rattle.bp_metric.specs.Records.{children_of, children_of_kind, paths_of, pat
 use Rattle.bp_metric.specs.Refutation.{CanSplit, Fits}
 use Rattle.bp_metric.specs.Stated.{IsStatedFor}
 use Rattle.bp_join.specs.declared.entry.Entry.{Entry}
-use Rattle.bp_join.specs.Entries.{entry_node, stacked, AddsOpen}
+use Rattle.bp_join.specs.declared.entry.Opened.{Opened}
+use Rattle.bp_join.specs.Entries.{entry_node, opened_node, stacked}
 use Rattle.bp_join.specs.Joined.{HasPairOf, node_of, part_of, AreOpenNodes, IsJoined}
 use Rattle.bp_join.specs.Trees.{AreInOrder, child_paths, paths_at, IsPartOf, HavePairs, IsTree, under, AllFit, NodeFits, BeginsWithTree, TakesTree, HasNodes}
 use Rattle.bp_join.proofs.Sums.{each-append}
@@ -127,9 +128,9 @@ module _ (T : TreeValue) (G : Sheet) where
   under_root [] = refl
   under_root (n ∷ ns) = ap (λ (ms : List Node). n ∷ ms) (under_root ns)
 
-  module _ (records : List Record) (left : List Task) (added sorted : List Entry) (opens : List Node) (all : AreOpenNodes T G left opens) (is : map (entry_node T G) added ≡ map (node_of T G) records ++ opens) (moved : IsPermutation added sorted) where
+  module _ (records : List Record) (left : List Task) (added sorted : List Entry) (opens : List Node) (all : AreOpenNodes T G left opens) (is : IsPermutation (map (node_of T G) records ++ opens) (map (entry_node T G) added)) (moved : IsPermutation added sorted) where
     shuffled : IsPermutation (map (node_of T G) records ++ opens) (stacked T G sorted)
-    shuffled = subst (λ (ns : List Node). IsPermutation ns (stacked T G sorted)) is (IsPermutation-map (entry_node T G) added (reverse sorted) (IsPermutation-trans added sorted (reverse sorted) moved (IsPermutation-reverse sorted)))
+    shuffled = IsPermutation-trans _ (map (entry_node T G) added) (stacked T G sorted) is (IsPermutation-map (entry_node T G) added (reverse sorted) (IsPermutation-trans added sorted (reverse sorted) moved (IsPermutation-reverse sorted)))
 
     same_nodes : AreSame (map (node_of T G) records ++ opens) (stacked T G sorted)
     same_nodes = same-IsPermutation (map (node_of T G) records ++ opens) (stacked T G sorted) shuffled
@@ -164,10 +165,13 @@ module _ (T : TreeValue) (G : Sheet) where
         let each = each-append P _ opens (records_fit splits S records (recursion_from_All (IsSound T G S) records sound)) (opens_fit left opens all) in
         has.fits (recursion_from_All P (stacked T G sorted) (All-permutation P _ _ shuffled (All-from_recursion P _ each)))
 
-  -- the records' entries, and then those of the tasks left
-  pub added_all : (records : List Record) (left : List Task) (first second added : List Entry) → first ≡ [] → map (entry_node T G) second ≡ map (entry_node T G) first ++ map (node_of T G) records → (adds : AddsOpen T G left second added) → map (entry_node T G) added ≡ map (node_of T G) records ++ adds.opens
-  added_all records left first second added none front adds =
-      adds.is ∙ ap (λ (ns : List Node). ns ++ adds.opens) (front ∙ ap (λ (es : List Entry). map (entry_node T G) es ++ map (node_of T G) records) none)
+  -- the entries of the tasks left in some order, and then those of the records, the last one first
+  pub added_all : (records : List Record) (opened : List Opened) (first second third added : List Entry) → first ≡ [] → map (entry_node T G) second ≡ map (entry_node T G) first ++ map opened_node opened → IsPermutation second third → map (entry_node T G) added ≡ map (entry_node T G) third ++ map (node_of T G) (reverse records) → IsPermutation (map (node_of T G) records ++ map opened_node opened) (map (entry_node T G) added)
+  added_all records opened first second third added none adds moved back =
+      let opens : IsPermutation (map opened_node opened) (map (entry_node T G) third) =
+      subst (λ (ns : List Node). IsPermutation ns (map (entry_node T G) third)) (adds ∙ ap (λ (es : List Entry). map (entry_node T G) es ++ map opened_node opened) none) (IsPermutation-map (entry_node T G) second third moved) in
+      let those : IsPermutation (map (node_of T G) records) (map (node_of T G) (reverse records)) = IsPermutation-map (node_of T G) records (reverse records) (IsPermutation-reverse records) in
+      subst (IsPermutation (map (node_of T G) records ++ map opened_node opened)) (sym back) (IsPermutation-trans _ (map opened_node opened ++ map (node_of T G) records) _ (IsPermutation-append_comm (map (node_of T G) records) (map opened_node opened)) (IsPermutation-append _ _ _ _ opens those))
 
   -- what a stack of all entries gives
   pub record Stands (records : List Record) (left : List Task) (ns : List Node) : Type 0 where
@@ -175,12 +179,12 @@ module _ (T : TreeValue) (G : Sheet) where
     pub joined : (after : List Node) (r : Refutation) → TakesTree T G ns after r → IsJoined T G records left r
     pub fits : ((u : ℕ) (path : List Step) (p : Pair) → IsStatedFor T G u path → IsNextPair T path p → CanSplit T path p) → (after : List Node) (r : Refutation) → TakesTree T G ns after r → (S : ℕ) → All (IsSound T G S) records → Fits T G r []
 
-  pub stands : (records : List Record) (left : List Task) (first second added sorted : List Entry) → first ≡ [] → map (entry_node T G) second ≡ map (entry_node T G) first ++ map (node_of T G) records → AddsOpen T G left second added → IsPermutation added sorted → AreInOrder (stacked T G sorted) → IsBalanced T G records left → All (λ (r : Record). HasPairOf T r.kind) records → Stands records left (stacked T G sorted)
-  stands records left first second added sorted none front adds moved order same pairs =
-      let is = added_all records left first second added none front adds in
-      let tree = whole_tree records left added sorted adds.opens adds.are_opens is moved same pairs order in
+  pub stands : (records : List Record) (left : List Task) (opened : List Opened) (first second third added sorted : List Entry) → AreOpenNodes T G left (map opened_node opened) → first ≡ [] → map (entry_node T G) second ≡ map (entry_node T G) first ++ map opened_node opened → IsPermutation second third → map (entry_node T G) added ≡ map (entry_node T G) third ++ map (node_of T G) (reverse records) → IsPermutation added sorted → AreInOrder (stacked T G sorted) → IsBalanced T G records left → All (λ (r : Record). HasPairOf T r.kind) records → Stands records left (stacked T G sorted)
+  stands records left opened first second third added sorted are_opens none adds turned back moved order same pairs =
+      let is = added_all records opened first second third added none adds turned back in
+      let tree = whole_tree records left added sorted (map opened_node opened) are_opens is moved same pairs order in
       record {
-        begins = tree_next records left added sorted adds.opens adds.are_opens is moved tree;
-        joined = λ after r takes. joined_all records left added sorted adds.opens adds.are_opens is moved r (root_taken records left added sorted adds.opens adds.are_opens is moved after r tree takes);
-        fits = λ splits after r takes. fits_all records left added sorted adds.opens adds.are_opens is moved splits r (root_taken records left added sorted adds.opens adds.are_opens is moved after r tree takes);
+        begins = tree_next records left added sorted (map opened_node opened) are_opens is moved tree;
+        joined = λ after r takes. joined_all records left added sorted (map opened_node opened) are_opens is moved r (root_taken records left added sorted (map opened_node opened) are_opens is moved after r tree takes);
+        fits = λ splits after r takes. fits_all records left added sorted (map opened_node opened) are_opens is moved splits r (root_taken records left added sorted (map opened_node opened) are_opens is moved after r tree takes);
       }

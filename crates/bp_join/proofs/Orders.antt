@@ -121,19 +121,19 @@ cmp_end ps qs k most least =
 -- Entries in descending order are a stack in order.
 
 abbrev stack_lt : Entry → Entry → Bool
-stack_lt a b = is_lt (path_cmp b.path a.path)
+stack_lt a b = is_lt (path_cmp b.path.now a.path.now)
 
 pub stack_order : IsStrictWeakOrder stack_lt
-stack_order = ranks_by (back_total nat_list_cmp_total) (λ (e : Entry). choice_numbers e.path)
+stack_order = ranks_by (back_total nat_list_cmp_total) (λ (e : Entry). choice_numbers e.path.now)
 
 abbrev Descends : List Entry → Type 0
 Descends [] = Unit {0}
-Descends (x ∷ xs) = AllByRecursion (λ (e : Entry). is_lt (path_cmp x.path e.path) ≡ false) xs × Descends xs
+Descends (x ∷ xs) = AllByRecursion (λ (e : Entry). is_lt (path_cmp x.path.now e.path.now) ≡ false) xs × Descends xs
 
 descends : (xs : List Entry) → ((i j : ℕ) (d : Entry) → i ≤ j → j < length xs → stack_lt (get_or xs j d) (get_or xs i d) ≡ false) → Descends xs
 descends [] far = tt
 descends (x ∷ xs) far = (
-  recursion_from_All (λ (e : Entry). is_lt (path_cmp x.path e.path) ≡ false) xs (λ k d less. far 0 (suc k) d (omega arith) (omega (arith, less))),
+  recursion_from_All (λ (e : Entry). is_lt (path_cmp x.path.now e.path.now) ≡ false) xs (λ k d less. far 0 (suc k) d (omega arith) (omega (arith, less))),
   descends xs (λ i j d upto less. far (suc i) (suc j) d (omega (arith, upto)) (omega (arith, less))),
 )
 
@@ -154,10 +154,10 @@ module _ (T : TreeValue) (G : Sheet) where
 
   stack_in_order : (xs : List Entry) → Descends xs → AreInOrder (stacked T G xs)
   stack_in_order [] down = tt
-  stack_in_order (x ∷ xs) down = subst AreInOrder (sym (stacked_cons x xs)) (in_order_push (stacked T G xs) (entry_node T G x) (stack_in_order xs down.1) (each-map (λ (n : Node). is_lt (path_cmp x.path n.path) ≡ false) (entry_node T G) (reverse xs) (each-reverse (λ (e : Entry). is_lt (path_cmp x.path e.path) ≡ false) xs down.0)))
+  stack_in_order (x ∷ xs) down = subst AreInOrder (sym (stacked_cons x xs)) (in_order_push (stacked T G xs) (entry_node T G x) (stack_in_order xs down.1) (each-map (λ (n : Node). is_lt (path_cmp x.path.now n.path) ≡ false) (entry_node T G) (reverse xs) (each-reverse (λ (e : Entry). is_lt (path_cmp x.path.now e.path.now) ≡ false) xs down.0)))
 
   -- from the clause `sorted` of a sort by a closure that compares the second path with the first
-  pub sorted_stack : {F : Type 0} {g : Mut F (Bor Entry × (Bor Entry × Unit {0})) Ordering} {f : F} (xs : List Entry) → ((lt : Entry → Entry → Bool) → IsStrictWeakOrder lt → ComparesAs g lt f → IsSortedBy lt xs) → ((a : Bor Entry × (Bor Entry × Unit {0})) (r : Ordering) (f' : F) → Called g f a r f' → (r ≡ path_cmp a.1.0.now.path a.0.now.path) × (f' ≡ f)) → AreInOrder (stacked T G xs)
+  pub sorted_stack : {F : Type 0} {g : Mut F (Bor Entry × (Bor Entry × Unit {0})) Ordering} {f : F} (xs : List Entry) → ((lt : Entry → Entry → Bool) → IsStrictWeakOrder lt → ComparesAs g lt f → IsSortedBy lt xs) → ((a : Bor Entry × (Bor Entry × Unit {0})) (r : Ordering) (f' : F) → Called g f a r f' → (r ≡ path_cmp a.1.0.now.path.now a.0.now.path.now) × (f' ≡ f)) → AreInOrder (stacked T G xs)
   sorted_stack {g = g} {f = f} xs sorted h =
       let up = sorted stack_lt stack_order (always_returns_same g (λ a r. is_lt r ≡ stack_lt a.0.now a.1.0.now) f (λ a r f' k. (ap is_lt (h a r f' k).0, (h a r f' k).1))) in
       stack_in_order xs (descends xs (sorted_far stack_lt stack_order xs up))

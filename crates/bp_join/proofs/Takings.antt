@@ -1,11 +1,12 @@
 -- What a stack of entries gives: a tree's nodes, one tree after another.
-use Rattle.std.proofs.Common.{◌≡◌, ◌<◌, ◌≤◌, List, [], ◌∷◌, ◌++◌, map, length, refl, sym, ◌∙◌, ap, subst, arith, length-append}
-use Rattle.std.proofs.lemmas.List.{map-append, append_assoc, append-nil, length-map}
+use Rattle.std.proofs.Common.{◌≡◌, ◌<◌, ◌≤◌, List, [], ◌∷◌, ◌++◌, map, length, reverse, refl, sym, ◌∙◌, ap, subst, arith, length-append}
+use Rattle.std.proofs.lemmas.List.{map-append, append_assoc, append-nil, length-map, reverse-append}
 use Rattle.bp_base.specs.declared.chain.Claim.{Claim}
 use Rattle.bp_base.specs.declared.path.Choice.{Choice}
 use Rattle.bp_base.specs.declared.path.Pair.{Pair}
 use Rattle.bp_base.specs.declared.path.Step.{Step}
 use Rattle.bp_base.specs.declared.point.Sheet.{Sheet}
+use Rattle.bp_base.specs.declared.record.Record.{Record}
 use Rattle.bp_base.specs.declared.record.Task.{Task}
 use Rattle.bp_base.specs.declared.refutation.Refutation.{Refutation, fold-roll-Refutation}
 use Rattle.bp_base.specs.declared.refutation.Refutation.TheOpen.{Refutation-F}
@@ -18,8 +19,9 @@ use Rattle.bp_metric.specs.Refutation.{extended, EachFits, Fits}
 use Rattle.bp_metric.proofs.Refutations.{fits-split, fits-closed, fits-open}
 use Rattle.bp_join.specs.declared.entry.Entry.{Entry}
 use Rattle.bp_join.specs.declared.entry.Found.{Found}
-use Rattle.bp_join.specs.Entries.{entry_node, part_found, stacked, AddsOpen}
-use Rattle.bp_join.specs.Joined.{AreOpenNodes, IsOpenNode}
+use Rattle.bp_join.specs.declared.entry.Opened.{Opened}
+use Rattle.bp_join.specs.Entries.{entry_node, part_found, opened_node, stacked}
+use Rattle.bp_join.specs.Joined.{AreOpenNodes, IsOpenNode, node_of}
 use Rattle.bp_join.specs.Trees.{IsTree, IsForest, IsPartOf, under, nodes_from, AllFit, HasChildNodes, BeginsWithTree, BeginsWithForest, TakesTree, TakesForest}
 use Rattle.bp_join.proofs.Sums.{each_front, each_back}
 use Rattle.bp_join.proofs.Orders.{stacked_push}
@@ -33,16 +35,19 @@ opens_push T G [] (m ∷ ns) t n all one = absurd all
 opens_push T G (s ∷ ts) [] t n all one = absurd all
 opens_push T G (s ∷ ts) (m ∷ ns) t n all one = (all.0, opens_push T G ts ns t n all.1 one)
 
-pub opens_more : (T : TreeValue) (G : Sheet) (ts : List Task) (t : Task) (before now : List Entry) (e : Entry) (after : List Entry) → AddsOpen T G ts before now → IsOpenNode T G t (entry_node T G e) → after ≡ now ++ e ∷ [] → AddsOpen T G (ts ++ t ∷ []) before after
-opens_more T G ts t before now e after adds one is = record {
-  opens = adds.opens ++ entry_node T G e ∷ [];
-  are_opens = opens_push T G ts adds.opens t (entry_node T G e) adds.are_opens one;
-  is =
-      ap (map (entry_node T G)) is
-      ∙ map-append (entry_node T G) now (e ∷ [])
-      ∙ ap (λ (ns : List Node). ns ++ entry_node T G e ∷ []) adds.is
-      ∙ append_assoc (map (entry_node T G) before) adds.opens (entry_node T G e ∷ []);
-}
+pub opens_more : (T : TreeValue) (G : Sheet) (ts : List Task) (t : Task) (now : List Opened) (o : Opened) (after : List Opened) → AreOpenNodes T G ts (map opened_node now) → IsOpenNode T G t (opened_node o) → after ≡ now ++ o ∷ [] → AreOpenNodes T G (ts ++ t ∷ []) (map opened_node after)
+opens_more T G ts t now o after all one is =
+    subst (AreOpenNodes T G (ts ++ t ∷ [])) (sym (ap (map opened_node) is ∙ map-append opened_node now (o ∷ []))) (opens_push T G ts (map opened_node now) t (opened_node o) all one)
+
+-- Records' entries, from the last one on.
+
+pub back_more : (T : TreeValue) (G : Sheet) (entries after : List Entry) (e : Entry) (rest before : List Record) (last : Record) (all : List Node) → map (entry_node T G) entries ++ map (node_of T G) (reverse rest) ≡ all → after ≡ entries ++ e ∷ [] → entry_node T G e ≡ node_of T G last → rest ≡ before ++ last ∷ [] → map (entry_node T G) after ++ map (node_of T G) (reverse before) ≡ all
+back_more T G entries after e rest before last all so_far is same parts =
+    ap (λ (ns : List Node). ns ++ map (node_of T G) (reverse before)) (ap (map (entry_node T G)) is ∙ map-append (entry_node T G) entries (e ∷ []))
+    ∙ append_assoc (map (entry_node T G) entries) (entry_node T G e ∷ []) (map (node_of T G) (reverse before))
+    ∙ ap (λ (n : Node). map (entry_node T G) entries ++ n ∷ map (node_of T G) (reverse before)) same
+    ∙ ap (λ (rs : List Record). map (entry_node T G) entries ++ map (node_of T G) rs) (sym (ap reverse parts ∙ reverse-append before (last ∷ [])))
+    ∙ so_far
 
 -- Nodes of a refutation at a path.
 
@@ -72,7 +77,7 @@ module _ (T : TreeValue) (G : Sheet) where
 
   -- Taking one node off.
 
-  record Opened (n : Node) (after : List Node) (path : List Step) (front rest : List Node) : Type 0 where
+  record Uncovered (n : Node) (after : List Node) (path : List Step) (front rest : List Node) : Type 0 where
     others : List Node
     here : n.path ≡ path
     nodes : map (under path) front ≡ (record { path = path; part = n.part }) ∷ map (under path) others
@@ -83,7 +88,7 @@ module _ (T : TreeValue) (G : Sheet) where
   same_cons : (n m : Node) (ns ms : List Node) → n ∷ ns ≡ m ∷ ms → (n ≡ m) × (ns ≡ ms)
   same_cons n m ns ms is = (cc is, cc is)
 
-  opened : (n : Node) (after : List Node) (path : List Step) (front rest : List Node) → n ∷ after ≡ map (under path) front ++ rest → IsTree T G front → Opened n after path front rest
+  opened : (n : Node) (after : List Node) (path : List Step) (front rest : List Node) → n ∷ after ≡ map (under path) front ++ rest → IsTree T G front → Uncovered n after path front rest
   opened n after path front rest is tree =
       let r = root T G front tree in
       let at_path : (record { path = path ++ []; part = r.part }) ≡ (record { path = path; part = r.part }) = λ i. record { path = append-nil path i; part = r.part } in
@@ -105,7 +110,7 @@ module _ (T : TreeValue) (G : Sheet) where
   pub none_taken : BeginsWithTree T G [] → ⊥
   none_taken b = let r = root T G b.front b.tree in let e : [] ≡ map (under b.path) ((record { path = []; part = r.part }) ∷ r.others) ++ b.rest = b.is ∙ ap (λ (ns : List Node). map (under b.path) ns ++ b.rest) r.is in absurd (cc e)
 
-  pub closed_taken : (before after : List Node) (at : List Step) (claim : Claim) → before ≡ (record { path = at; part = ClosedBy claim }) ∷ after → TakesTree T G before after (Closed claim)
+  closed_taken : (before after : List Node) (at : List Step) (claim : Claim) → before ≡ (record { path = at; part = ClosedBy claim }) ∷ after → TakesTree T G before after (Closed claim)
   closed_taken before after at claim first path front rest is tree =
       let o = opened (record { path = at; part = ClosedBy claim }) after path front rest (sym first ∙ is) tree in
       let none : map (under path) o.others ≡ [] = ap (map (under path)) o.behind in
@@ -117,7 +122,7 @@ module _ (T : TreeValue) (G : Sheet) where
         },
       )
 
-  pub open_taken : (before after : List Node) (at : List Step) (claim : Claim) → before ≡ (record { path = at; part = OpenBy claim }) ∷ after → TakesTree T G before after (Open claim)
+  open_taken : (before after : List Node) (at : List Step) (claim : Claim) → before ≡ (record { path = at; part = OpenBy claim }) ∷ after → TakesTree T G before after (Open claim)
   open_taken before after at claim first path front rest is tree =
       let o = opened (record { path = at; part = OpenBy claim }) after path front rest (sym first ∙ is) tree in
       let none : map (under path) o.others ≡ [] = ap (map (under path)) o.behind in
@@ -128,6 +133,14 @@ module _ (T : TreeValue) (G : Sheet) where
           fits = λ fit. subst (λ (X : Type 0). X) (sym (fits-open T G claim path)) (subst (AllFit T G) nodes fit).0;
         },
       )
+
+  -- the same by a copy of the claim
+
+  pub closed_copied : (before after : List Node) (at : List Step) (claim given : Claim) → given ≡ claim → before ≡ (record { path = at; part = ClosedBy claim }) ∷ after → TakesTree T G before after (Closed given)
+  closed_copied before after at claim given same first = closed_taken before after at given (first ∙ (λ i. (record { path = at; part = ClosedBy (sym same i) }) ∷ after))
+
+  pub open_copied : (before after : List Node) (at : List Step) (claim given : Claim) → given ≡ claim → before ≡ (record { path = at; part = OpenBy claim }) ∷ after → TakesTree T G before after (Open given)
+  open_copied before after at claim given same first = open_taken before after at given (first ∙ (λ i. (record { path = at; part = OpenBy (sym same i) }) ∷ after))
 
   -- a split's node is followed by the trees of its children
   pub split_next : (before after : List Node) (at : List Step) (p : Pair) → before ≡ (record { path = at; part = SplitOf p (length (allowed T G p)) }) ∷ after → BeginsWithTree T G before → IsPairOf (leaf_count T) p × BeginsWithForest T G p (allowed T G p) after
@@ -297,8 +310,8 @@ module _ (T : TreeValue) (G : Sheet) where
   some_there (e ∷ entries) b = omega arith
 
   -- the top of a stack is what was taken off
-  pub top_is : (old new : List Entry) (at : List Step) (found kind : Found) → old ≡ new ++ (record { path = at; found = found }) ∷ [] → found ≡ kind → stacked T G old ≡ (record { path = at; part = part_found T G kind }) ∷ stacked T G new
-  top_is old new at found kind is same =
+  pub top_is : (old new : List Entry) (e : Entry) (kind : Found) → old ≡ new ++ e ∷ [] → e.found ≡ kind → stacked T G old ≡ (record { path = e.path.now; part = part_found T G kind }) ∷ stacked T G new
+  top_is old new e kind is same =
       ap (stacked T G) is
-      ∙ stacked_push T G new (record { path = at; found = found })
-      ∙ (λ i. (record { path = at; part = part_found T G (same i) }) ∷ stacked T G new)
+      ∙ stacked_push T G new e
+      ∙ (λ i. (record { path = e.path.now; part = part_found T G (same i) }) ∷ stacked T G new)

@@ -1,6 +1,5 @@
 // Trees of entries that stand in preorder.
-ghost use Rattle.std.specs.Prelude.{◌≡◌, ◌<◌, ◌≤◌, ◌++◌, [], ◌∷◌, List, length, IfOk, OnOk};
-ghost use Rattle.bp_base.specs.declared.path.Step.{Step as AnyStep};
+ghost use Rattle.std.specs.Prelude.{◌≡◌, ◌<◌, ◌≤◌, ◌++◌, [], ◌∷◌, length, IfOk, OnOk};
 ghost use Rattle.bp_base.specs.Path.{IsPairOf};
 ghost use Rattle.bp_base.specs.Tree.{leaf_count};
 ghost use Rattle.bp_metric.specs.Choices.{allowed};
@@ -19,29 +18,33 @@ use std::alloc::Global;
 pub fn tree(
     alloc: Global,
     metric: &Metric,
-    entries: &mut Vec<Entry>,
+    entries: &mut Vec<Entry<'_>>,
 ) -> Result<Refutation, NoMemory>
     requires { BeginsWithTree metric.now.tree metric.now.sheet (stacked metric.now.tree metric.now.sheet entries.old.items) }
     ensures tree { IfOk result (λ r. TakesTree metric.now.tree metric.now.sheet (stacked metric.now.tree metric.now.sheet entries.old.items) (stacked metric.now.tree metric.now.sheet entries.new.items) r) }
     ensures fewer { length entries.new.items ≤ length entries.old.items }
 {
-    match take(entries) {
+    match take(entries).found {
         Found::Split { pair } => {
             let children = forest(alloc, metric, pair, entries)?;
             Ok(Refutation::Split { pair, children })
         }
-        Found::Closed { claim } => Ok(Refutation::Closed { claim }),
-        Found::Open { claim } => Ok(Refutation::Open { claim }),
+        Found::Closed { claim } => Ok(Refutation::Closed {
+            claim: claim.copy(),
+        }),
+        Found::Open { claim } => Ok(Refutation::Open {
+            claim: claim.copy(),
+        }),
     }
 }
 
-// Takes the top entry off, and gives what stands there.
-fn take(entries: &mut Vec<Entry>) -> Found
+// Takes the top entry off.
+fn take<'a>(entries: &mut Vec<Entry<'a>>) -> Entry<'a>
     requires { 0 < length entries.old.items }
-    ensures { (path : List AnyStep) × (entries.old.items ≡ entries.new.items ++ (record { path = path; found = result }) ∷ []) }
+    ensures { entries.old.items ≡ entries.new.items ++ result ∷ [] }
 {
     match entries.pop() {
-        Some(entry) => entry.found,
+        Some(entry) => entry,
         None => unreachable!(),
     }
 }
@@ -52,7 +55,7 @@ fn forest(
     alloc: Global,
     metric: &Metric,
     pair: Pair,
-    entries: &mut Vec<Entry>,
+    entries: &mut Vec<Entry<'_>>,
 ) -> Result<Items<Refutation>, NoMemory>
     requires pair { IsPairOf (leaf_count metric.now.tree) pair }
     requires forest { BeginsWithForest metric.now.tree metric.now.sheet pair (allowed metric.now.tree metric.now.sheet pair) (stacked metric.now.tree metric.now.sheet entries.old.items) }

@@ -6,18 +6,25 @@ ghost use Rattle.bp_join.specs.Trees.{path_cmp};
 use bp_base::{Choice, Claim, Pair, Path};
 use std::cmp::Ordering;
 
-/// A node that is to stand at its path.
-#[derive(Drop)]
-pub struct Entry {
-    pub path: Path,
-    pub found: Found,
+/// A node that is to stand at its path. Entries point at what they say, so that sorting moves little.
+#[derive(Clone, Copy)]
+pub struct Entry<'a> {
+    pub path: &'a Path,
+    pub found: Found<'a>,
 }
 
-#[derive(Drop)]
-pub enum Found {
+#[derive(Clone, Copy)]
+pub enum Found<'a> {
     Split { pair: Pair },
-    Closed { claim: Claim },
-    Open { claim: Claim },
+    Closed { claim: &'a Claim },
+    Open { claim: &'a Claim },
+}
+
+/// A task that was left, with what is shown for its path.
+#[derive(Drop)]
+pub struct Opened {
+    pub path: Path,
+    pub claim: Claim,
 }
 
 /// How two paths stand by their choices: at the first that differs, or else the shorter path first.

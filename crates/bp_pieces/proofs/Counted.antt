@@ -1,5 +1,5 @@
 -- A set has one number of cells.
-use Rattle.std.proofs.Common.{◌≡◌, ℕ, zero, suc, ◌+◌, ◌<◌, refl, sym, ◌∙◌, ap, arith}
+use Rattle.std.proofs.Common.{◌≡◌, ℕ, suc, refl, ap, arith}
 use Rattle.bp_pieces.specs.Pieces.{Counts, CountsRows}
 use Rattle.bp_pieces.specs.Pieces.Counts.{start, within, without}
 use Rattle.bp_pieces.specs.Pieces.CountsRows.{none, row}

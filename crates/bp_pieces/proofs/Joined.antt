@@ -1,5 +1,5 @@
 -- Chains can be joined, and gone back.
-use Rattle.std.proofs.Common.{◌≡◌, ℕ, ◌+◌, ◌≤◌, sym, arith, inl, inr}
+use Rattle.std.proofs.Common.{ℕ, sym, inl, inr}
 use Rattle.bp_pieces.specs.Pieces.{IsJoined, Meet, Touch}
 use Rattle.bp_pieces.specs.Pieces.IsJoined.{alone, onward}
 

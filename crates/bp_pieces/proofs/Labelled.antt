@@ -1,18 +1,18 @@
 -- Labels of cells, and what lowering one does.
-use Rattle.std.proofs.Common.{◌≡◌, ◌≢◌, ℕ, zero, suc, ◌+◌, ◌-◌, ◌*◌, ◌<◌, ◌≤◌, min, List, [], ◌∷◌, ◌++◌, length, get_or, set, refl, sym, ◌∙◌, ap, subst, arith, inl, inr}
-use Rattle.std.specs.List.{range_with_len, sum, sum_by}
+use Rattle.std.proofs.Common.{◌≡◌, ℕ, zero, suc, ◌+◌, ◌*◌, ◌<◌, ◌≤◌, min, List, [], ◌∷◌, ◌++◌, length, get_or, set, refl, sym, ◌∙◌, ap, subst, arith, inl, inr}
+use Rattle.std.specs.List.{range_with_len, sum}
 use Rattle.std.proofs.lemmas.Bool.{cases_eq, cases_lt, cases_order}
 use Rattle.std.proofs.lemmas.List.FromFn.{length-range_with_len, get_or-range_with_len}
 use Rattle.std.proofs.lemmas.List.Sums.{sum_by-set}
 use Rattle.std.proofs.lemmas.List.{get_or-set_same, get_or-set_other, length-set}
-use Rattle.bp_contour.specs.Table.{Holds, TableValue}
+use Rattle.bp_contour.specs.Table.{TableValue}
 use Rattle.bp_contour.proofs.Tables.{held_within, in_table, row_below}
 use Rattle.bp_pieces.specs.declared.kind.Kind.{Kind}
 use Rattle.bp_pieces.specs.declared.kind.Kind.TheVariants.{Outside, Reached}
 use Rattle.bp_pieces.specs.Labels.{Among, HasLabels, IsFound, IsLowest, IsPlaceFor, Near, label_at}
-use Rattle.bp_pieces.specs.Pieces.{IsJoined, Meet, Touch}
+use Rattle.bp_pieces.specs.Pieces.{IsJoined, Meet}
 use Rattle.bp_pieces.specs.Pieces.IsJoined.{alone, onward}
-use Rattle.bp_pieces.proofs.Joined.{first_in, joined_back, joined_on, last_in, meet_back, touch_back}
+use Rattle.bp_pieces.proofs.Joined.{joined_back, joined_on, last_in, meet_back, touch_back}
 
 pub among_within : (C : TableValue) (kind : Kind) (x y : ℕ) → Among C kind x y → (x < C.width) × (y < C.height)
 among_within C Reached x y a = held_within C x y a
@@ -216,3 +216,10 @@ module _ (C : TableValue) (kind : Kind) (labels : List ℕ) (has : HasLabels (Am
   pub settled : get_or labels place 0 ≤ get_or labels near 0 → ((u v : ℕ) → Among C kind u v → Near kind x y u v → near ≤ label_at C.width labels u v) → IsLowest (Among C kind) (Near kind) C.width labels x y
   settled stays low u v j close =
       omega (arith, at_place, stays, low u v j close, least_low (Among C kind) (Near kind) (near_back kind) C.width C.height (among_within C kind) labels has x y near i found own)
+
+-- a label is the place of a cell
+pub label_below : (C : TableValue) (kind : Kind) (labels : List ℕ) → HasLabels (Among C kind) (Near kind) C.width C.height labels → (x y : ℕ) → Among C kind x y → label_at C.width labels x y < C.width * C.height
+label_below C kind labels has x y i =
+    let p = has.place x y i in
+    let (u_in, v_in) = among_within C kind p.u p.v (last_in (Among C kind) (Near kind) x y p.u p.v p.joined) in
+    omega (arith, p.is, in_table C.width C.height p.u p.v u_in v_in)

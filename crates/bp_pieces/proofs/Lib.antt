@@ -1,5 +1,12 @@
 mod Counted
+mod Counting
+mod Crossing
 mod Joined
 mod Labelled
+mod Measured
+mod Parted
+mod Reported
 mod Scaled
+mod Told
 mod Unique
+mod Worked

@@ -1,11 +1,11 @@
 -- Chains over a table of cells between cuts, and chains over the unit cells.
-use Rattle.std.proofs.Common.{◌≡◌, ◌≢◌, ◌⊎◌, ℕ, zero, suc, ◌+◌, ◌-◌, ◌<◌, ◌≤◌, ◌↔◌, refl, sym, ◌∙◌, ap, subst, arith, inl, inr}
+use Rattle.std.proofs.Common.{◌≡◌, ◌⊎◌, ℕ, zero, suc, ◌+◌, ◌-◌, ◌<◌, ◌≤◌, ◌↔◌, refl, sym, subst, arith, inl, inr}
 use Rattle.std.proofs.lemmas.Bool.{cases_eq, cases_lt, cases_order}
-use Rattle.bp_contour.proofs.Scaled.{AreSteps, Lies, lies_at, lies_somewhere}
+use Rattle.bp_contour.proofs.Scaled.{AreSteps, Lies, lies_somewhere}
 use Rattle.bp_pieces.specs.declared.kind.Kind.{Kind}
 use Rattle.bp_pieces.specs.declared.kind.Kind.TheVariants.{Outside, Reached}
 use Rattle.bp_pieces.specs.Labels.{Near}
-use Rattle.bp_pieces.specs.Pieces.{AreNeighbours, IsJoined, Meet, Touch}
+use Rattle.bp_pieces.specs.Pieces.{AreNeighbours, IsJoined, Touch}
 use Rattle.bp_pieces.specs.Pieces.IsJoined.{alone, onward}
 use Rattle.bp_pieces.proofs.Joined.{joined_back, joined_on, last_in}
 use Rattle.bp_pieces.proofs.Labelled.{near_back}
@@ -19,7 +19,7 @@ touching Outside x y u v (inr (e, inl n)) = (omega arith, omega arith, omega ari
 touching Outside x y u v (inr (e, inr n)) = (omega arith, omega arith, omega arith, omega arith)
 
 module _ (cut : ℕ → ℕ) (n end : ℕ) (h : AreSteps cut n end) where
-  low_or_same : (i j : ℕ) → i ≤ j → j ≤ n → cut i ≤ cut j
+  pub low_or_same : (i j : ℕ) → i ≤ j → j ≤ n → cut i ≤ cut j
   low_or_same i j order within = elim (cases_eq i j) [
     | inl same ↦ subst (λ (k : ℕ). cut i ≤ cut k) same (omega arith)
     | inr apart ↦ omega (arith, h.rise i j (omega (arith, order, apart)) within)
@@ -57,10 +57,10 @@ module _ (cut : ℕ → ℕ) (n end : ℕ) (h : AreSteps cut n end) where
   ]
 
 -- numbers that differ by one at most
-abbrev AreClose : ℕ → ℕ → Type 0
+abbrev pub AreClose : ℕ → ℕ → Type 0
 AreClose a b = (a ≤ b + 1) × (b ≤ a + 1)
 
-close_cases : (a b : ℕ) → AreClose a b → (a ≡ b) ⊎ AreNeighbours a b
+pub close_cases : (a b : ℕ) → AreClose a b → (a ≡ b) ⊎ AreNeighbours a b
 close_cases a b close = elim (cases_order a b) [
   | inl same ↦ inl same
   | inr (inl less) ↦ inr (inl (omega (arith, less, close.1)))

@@ -12,8 +12,8 @@ Among C Outside x y = (x < C.width) × (y < C.height) × (Holds C x y → ⊥)
 
 -- which of them are near
 abbrev pub Near : Kind → ℕ → ℕ → ℕ → ℕ → Type 0
-Near Reached x y u v = Touch x y u v
-Near Outside x y u v = Meet x y u v
+Near Reached = Touch
+Near Outside = Meet
 
 -- the label of the cell in this column and row
 abbrev pub label_at : ℕ → List ℕ → ℕ → ℕ → ℕ

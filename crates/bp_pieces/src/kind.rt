@@ -1,6 +1,7 @@
 // Which cells of a table parts are made of, and which of them are near.
 ghost use Rattle.std.specs.Prelude.{◌+◌, ◌<◌, ◌^◌, ◌↔◌, IsTrue};
 ghost use Rattle.bp_pieces.specs.Labels.{Among, Near};
+ghost use Rattle.bp_pieces.specs.Parts.{IsOpen};
 
 use bp_base::Point;
 use bp_contour::Cells;
@@ -17,6 +18,21 @@ pub fn is_among(cells: &Cells, kind: Kind, x: u64, y: u64) -> bool
     match kind {
         Kind::Reached => cells.holds(x, y),
         Kind::Outside => x < cells.width() && y < cells.height() && !cells.holds(x, y),
+    }
+}
+
+// Whether it is a cell of the outside at the border of the table.
+pub fn is_open(cells: &Cells, kind: Kind, x: u64, y: u64) -> bool
+    requires { (x < cells.now.width) × (y < cells.now.height) }
+    ensures { IsTrue result ↔ IsOpen cells.now kind x y }
+{
+    let (width, height) = (cells.width(), cells.height());
+    match kind {
+        Kind::Reached => false,
+        Kind::Outside => {
+            let at_border = x == 0 || y == 0 || x + 1 == width || y + 1 == height;
+            at_border && is_among(cells, kind, x, y)
+        }
     }
 }
 

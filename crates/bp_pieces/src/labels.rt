@@ -16,6 +16,16 @@ pub fn labels_of(alloc: Global, cells: &Cells, kind: Kind) -> Result<Vec<u64>, N
     Ok(labels)
 }
 
+// The label of a cell.
+pub fn label_of(cells: &Cells, kind: Kind, labels: &[u64], x: u64, y: u64) -> u64
+    requires labels { AreLabels (Among cells.now kind) (Near kind) cells.now.width cells.now.height labels.now }
+    requires cell { Among cells.now kind x y }
+    ensures value { result ≡ label_at cells.now.width labels.now x y }
+    ensures within { result < cells.now.width * cells.now.height }
+{
+    labels[cells.place(x, y)]
+}
+
 // Each cell's own place.
 fn places(alloc: Global, cells: &Cells) -> Result<Vec<u64>, NoMemory>
     ensures { IfOk result (λ v. v.items ≡ range_with_len 0 (cells.now.width * cells.now.height)) }

@@ -4,5 +4,11 @@
 mod kind;
 mod labels;
 mod laws;
+mod parts;
+mod reporting;
 
 pub use laws::law_of_report;
+pub use reporting::report;
+
+#[cfg(test)]
+mod tests;

@@ -2,9 +2,9 @@
 use Rattle.std.proofs.Common.{◌≡◌, ℕ, zero, suc, ◌+◌, ◌-◌, ◌*◌, ◌<◌, ◌≤◌, ◌↔◌, Bool, true, List, [], ◌∷◌, ◌++◌, Option, None, Some, length, get_or, take, drop, map, Contains, if◌then◌else◌, refl, sym, ◌∙◌, ap, All, IsTrue, eqb, subst, arith, inl, inr, length-append, append_assoc}
 use Rattle.std.specs.List.{flat_map, range_with_len}
 use Rattle.std.specs.Option.{option_eq}
-use Rattle.std.proofs.lemmas.Bool.{cases_Bool, eq-eqb, eqb-true, false≢true}
+use Rattle.std.proofs.lemmas.Bool.{cases_Bool, cases_lt, eq-eqb, eqb-true, false≢true}
 use Rattle.std.proofs.lemmas.List.Elements.{All-map}
-use Rattle.std.proofs.lemmas.List.{append-nil}
+use Rattle.std.proofs.lemmas.List.{append-nil, get_or-drop, get_or-take, get_or_append_left, get_or_push, get_or_read, length-drop, length-take-le}
 use Rattle.std.proofs.Math.Seq.{take-append_seam, drop-append-add}
 use Rattle.std.proofs.lemmas.List.Concat.{flat_map-append}
 use Rattle.std.proofs.lemmas.List.FromFn.{length-range_with_len, get_or-range_with_len, length-map-range_with_len, get_or-map-range_with_len, map-range_with_len_more}
@@ -18,7 +18,8 @@ use Rattle.bp_metric.specs.Distance.{most_distance}
 use Rattle.bp_metric.proofs.Distances.{dist_small, le_from_below}
 use Rattle.bp_metric.proofs.Ranges.{range_more}
 use Rattle.bp_regions.specs.declared.ball.Ball.{Ball}
-use Rattle.bp_regions.specs.Balls.{AreEnds, HoldsCell, IsSmallBall, ball_of, balls_of, no_ball, row_of}
+use Rattle.bp_regions.specs.declared.span.Span.{Span}
+use Rattle.bp_regions.specs.Balls.{AreEnds, AreSpans, HoldsCell, IsSmallBall, IsSpan, ball_of, balls_of, no_ball, no_span, row_of}
 use Rattle.bp_regions.specs.Cells.{IsCell, IsInBall, Own, Owner, Reach}
 use Rattle.bp_regions.specs.Regions.{ArePlaced, RegionsValue}
 use Rattle.bp_regions.specs.Cuts.{AreAlike, AreCuts, AreTogether}
@@ -229,6 +230,90 @@ pub made_small : (T : TreeValue) (S : ℕ) (P points : List Point) (balls list :
 made_small T S P points balls list t h copied made same =
     subst (All IsSmallBall) (sym (same ∙ made ∙ ap (balls_of T) copied)) (balls_small T P S t h)
 
+-- parts of a list
+
+part_long : (list : List Ball) (s c : ℕ) → s + c ≤ length list → length (take c (drop s list)) ≡ c
+part_long list s c within = length-take-le c (drop s list) (omega (arith, length-drop s list, within))
+
+part_at : (list : List Ball) (s c k : ℕ) (d : Ball) → k < c → get_or (take c (drop s list)) k d ≡ get_or list (s + k) d
+part_at list s c k d less = get_or-take c (drop s list) k d less ∙ get_or-drop s list k d
+
+-- a ball that holds a cell isn't empty
+not_empty : (b : Ball) (x y : ℕ) → IsInBall b.at b.radius x y → b.radius ≡ 0 → ⊥
+not_empty b x y near none = omega (arith, near.0, near.1, none)
+
+module _ (list : List Ball) (start each : ℕ) (s : Span) (within : start + each ≤ length list) (is : IsSpan list start each s) where
+  span_in : s.start + s.count ≤ length list
+  span_in = omega (arith, is.before, within)
+
+  -- the span holds what all of the balls hold
+  span_holds : (x y : ℕ) → (HoldsCell (take s.count (drop s.start list)) x y → HoldsCell (take each (drop start list)) x y) × (HoldsCell (take each (drop start list)) x y → HoldsCell (take s.count (drop s.start list)) x y)
+  span_holds x y = (
+    λ h.
+        let less : h.at < s.count = omega (arith, h.within, part_long list s.start s.count span_in) in
+        let k : ℕ = s.start - start + h.at in
+        let there : k < each = omega (arith, less, is.after, is.before) in
+        let same : start + k ≡ s.start + h.at = omega (arith, is.after) in
+        let at : get_or (take s.count (drop s.start list)) h.at no_ball ≡ get_or (take each (drop start list)) k no_ball =
+        part_at list s.start s.count h.at no_ball less ∙ ap (λ (m : ℕ). get_or list m no_ball) (sym same) ∙ sym (part_at list start each k no_ball there) in
+        record {
+          at = k;
+          within = omega (arith, there, part_long list start each within);
+          near = subst (λ (b : Ball). IsInBall b.at b.radius x y) at h.near;
+        },
+    λ h.
+        let less : h.at < each = omega (arith, h.within, part_long list start each within) in
+        let here : get_or (take each (drop start list)) h.at no_ball ≡ get_or list (start + h.at) no_ball = part_at list start each h.at no_ball less in
+        let near : IsInBall (get_or list (start + h.at) no_ball).at (get_or list (start + h.at) no_ball).radius x y = subst (λ (b : Ball). IsInBall b.at b.radius x y) here h.near in
+        let from : s.start ≤ start + h.at = not_before (start + h.at) (λ less'. not_empty _ x y near (is.first (start + h.at) (omega arith) less')) in
+        let to : start + h.at < s.start + s.count = not_after (start + h.at) (λ more. not_empty _ x y near (is.last (start + h.at) more (omega (arith, less)))) in
+        let k : ℕ = start + h.at - s.start in
+        let there : k < s.count = omega (arith, from, to) in
+        let same : s.start + k ≡ start + h.at = omega (arith, from) in
+        record {
+          at = k;
+          within = omega (arith, there, part_long list s.start s.count span_in);
+          near = subst (λ (b : Ball). IsInBall b.at b.radius x y) (sym (part_at list s.start s.count k no_ball there ∙ ap (λ (m : ℕ). get_or list m no_ball) same)) near;
+        },
+  )
+    where
+      not_before : (m : ℕ) → (m < s.start → ⊥) → s.start ≤ m
+      not_before m never = elim (cases_lt m s.start) [ inl less' ↦ absurd (never less') | inr more ↦ omega (arith, more) ]
+
+      not_after : (m : ℕ) → (s.start + s.count ≤ m → ⊥) → m < s.start + s.count
+      not_after m never = elim (cases_lt m (s.start + s.count)) [ inl less' ↦ omega (arith, less') | inr more ↦ absurd (never (omega (arith, more))) ]
+
+-- spans of one row after another
+
+above : (a b n : ℕ) → a ≤ b → a * n ≤ b * n
+above a b n less = grind arith
+
+pub spans_more : (balls : List Ball) (each start : ℕ) (spans after : List Span) (s : Span) → start ≡ length spans * each → ((k : ℕ) → k < length spans → IsSpan balls (k * each) each (get_or spans k no_span)) → IsSpan balls start each s → after ≡ spans ++ s ∷ [] → (start + each ≡ length after * each) × ((k : ℕ) → k < length after → IsSpan balls (k * each) each (get_or after k no_span))
+spans_more balls each start spans after s at is one added = (next (length spans) (length after) at long, all)
+  where
+    long : length after ≡ length spans + 1
+    long = omega (arith, ap length added, length-append spans (s ∷ []))
+
+    next : (a b : ℕ) → start ≡ a * each → b ≡ a + 1 → start + each ≡ b * each
+    next a b from more =
+        let same : b ≡ suc a = omega (arith, more) in
+        subst (λ (m : ℕ). start + each ≡ m * each) (sym same) (omega (arith, from))
+
+    all : (k : ℕ) → k < length after → IsSpan balls (k * each) each (get_or after k no_span)
+    all k less = elim (cases_lt k (length spans)) [
+      | inl old ↦ subst (IsSpan balls (k * each) each) (sym (ap (λ (l : List Span). get_or l k no_span) added ∙ get_or_append_left spans (s ∷ []) no_span k old)) (is k old)
+      | inr last ↦
+          let e : length spans ≡ k = omega (arith, long, less, last) in
+          let here : get_or after k no_span ≡ s = ap (λ (l : List Span). get_or l k no_span) added ∙ get_or_push spans s no_span k e in
+          subst (IsSpan balls (k * each) each) (sym here) (subst (λ (m : ℕ). IsSpan balls m each s) (at ∙ ap (λ (m : ℕ). m * each) e) one)
+    ]
+
+pub spans_done : (balls : List Ball) (each start : ℕ) (spans : List Span) → start ≡ length spans * each → ((k : ℕ) → k < length spans → IsSpan balls (k * each) each (get_or spans k no_span)) → start ≤ length balls → length balls - start < each → AreSpans balls each spans
+spans_done balls each start spans at is within few k room' = elim (cases_lt k (length spans)) [
+  | inl less ↦ (less, is k less)
+  | inr more ↦ absurd (omega (arith, above (length spans) k each more, at, within, few, room'))
+]
+
 -- what the code reads, with the values as it has them
 module _ (T : TreeValue) (S : ℕ) (P : List Point) (R : RegionsValue) (balls : List Ball) (view : record { tree = T; side = S; points = P } ≡ R) (h : ArePlaced T S P) (is : balls ≡ balls_of T P) where
   side_is : S ≡ R.side
@@ -268,3 +353,32 @@ module _ (T : TreeValue) (S : ℕ) (P : List Point) (R : RegionsValue) (balls : 
     read_reach row x y r at cell holds =
         let here : HoldsCell row x y ↔ Reach T S P e x y = subst (λ (l : List Ball). HoldsCell l x y ↔ Reach T S P e x y) (sym (read_row row at)) (row_reaches T P S e x y (subst (λ (s : ℕ). IsCell s x y) (sym side_is) cell)) in
         subst (λ (V : RegionsValue). IsTrue r ↔ Reach V.tree V.side V.points e x y) view (λ so. here.0 (holds.0 so), λ reach. holds.1 (here.1 reach))
+
+    module _ (spans : List Span) (all : AreSpans balls (length P) spans) where
+      short : (e - 1) * length P + length P ≤ length balls
+      short = subst (λ (l : List Ball). (e - 1) * length P + length P ≤ length l) same (subst (λ (m : ℕ). (e - 1) * m + m ≤ length list) long read_within)
+
+      pub span_there : e - 1 < length spans
+      span_there = (all (e - 1) short).0
+
+      module _ (s : Span) (here : s ≡ get_or spans (e - 1) s) where
+        is_span : IsSpan list ((e - 1) * n) n s
+        is_span =
+            let there : get_or spans (e - 1) no_span ≡ s = sym (get_or_read spans (e - 1) s span_there here no_span) in
+            subst (λ (m : ℕ). IsSpan list ((e - 1) * m) m s) (sym long) (subst (λ (l : List Ball). IsSpan l ((e - 1) * length P) (length P) s) (sym same) (subst (IsSpan balls ((e - 1) * length P) (length P)) there (all (e - 1) short).1))
+
+        pub span_within : s.start + s.count ≤ length list
+        span_within = span_in list ((e - 1) * n) n s read_within is_span
+
+        pub span_small : (row : List Ball) → row ≡ take s.count (drop s.start list) → IsTree T → All IsSmallBall row
+        span_small row at t =
+            let small : All IsSmallBall list = subst (All IsSmallBall) (sym (same ∙ is)) (balls_small T P S t h) in
+            subst (All IsSmallBall) (sym at) (λ k d less.
+            let within : k < s.count = omega (arith, less, part_long list s.start s.count span_within) in
+            subst IsSmallBall (sym (part_at list s.start s.count k d within)) (small (s.start + k) d (omega (arith, within, span_within))))
+
+        pub span_reach : (row : List Ball) (x y : ℕ) (r : Bool) → row ≡ take s.count (drop s.start list) → IsCell R.side x y → (IsTrue r ↔ HoldsCell row x y) → (IsTrue r ↔ Reach R.tree R.side R.points e x y)
+        span_reach row x y r at cell holds =
+            let there = span_holds list ((e - 1) * n) n s read_within is_span x y in
+            read_reach (take n (drop ((e - 1) * n) list)) x y r refl cell
+            (λ so. there.0 (subst (λ (l : List Ball). HoldsCell l x y) at (holds.0 so)), λ h'. holds.1 (subst (λ (l : List Ball). HoldsCell l x y) (sym at) (there.1 h')))

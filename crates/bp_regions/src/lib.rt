@@ -5,6 +5,7 @@ mod ball;
 mod cuts;
 mod laws;
 mod regions;
+mod span;
 
 pub use laws::{law_of_cuts, law_of_regions};
 pub use regions::Regions;

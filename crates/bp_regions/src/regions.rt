@@ -10,6 +10,7 @@ ghost use Rattle.bp_regions.specs.Regions.{AreRegions};
 
 use crate::ball::{Ball, balls_of, holds_any, part};
 use crate::cuts::cuts_of;
+use crate::span::{Span, spans_of};
 use bp_base::{Axis, NoMemory, Placement, Point, Tree};
 use bp_metric::Metric;
 use std::alloc::Global;
@@ -23,21 +24,22 @@ pub struct Regions {
     points: Vec<Point>,
     // for each edge the balls of all leaves, so that an edge is asked about a cell without the tree
     balls: Vec<Ball>,
+    spans: Vec<Span>,
     xs: Vec<u64>,
     ys: Vec<u64>,
 }
 
 impl Model for Regions {
-    ghost use Rattle.std.specs.Prelude.{◌≡◌};
+    ghost use Rattle.std.specs.Prelude.{◌≡◌, length};
     ghost use Rattle.bp_base.specs.declared.point.Axis.TheVariants.{X, Y};
-    ghost use Rattle.bp_regions.specs.Balls.{balls_of, AreEnds};
+    ghost use Rattle.bp_regions.specs.Balls.{balls_of, AreEnds, AreSpans};
     ghost use Rattle.bp_regions.specs.Regions.{RegionsValue, ArePlaced};
 
     ghost Value = { RegionsValue };
 
     ghost view = { λ r. record { tree = r.tree; side = r.side; points = r.points.items } };
 
-    ghost invariant = { λ r. ArePlaced r.tree r.side r.points.items × (r.balls.items ≡ balls_of r.tree r.points.items) × AreEnds r.side X r.balls.items r.xs.items × AreEnds r.side Y r.balls.items r.ys.items };
+    ghost invariant = { λ r. ArePlaced r.tree r.side r.points.items × (r.balls.items ≡ balls_of r.tree r.points.items) × AreEnds r.side X r.balls.items r.xs.items × AreEnds r.side Y r.balls.items r.ys.items × AreSpans r.balls.items (length r.points.items) r.spans.items };
 }
 
 impl Regions {
@@ -53,6 +55,7 @@ impl Regions {
         let side = placement.side;
         let points = Vec::from_slice(alloc, placement.points.as_slice())?;
         let balls = balls_of(alloc, metric, &points)?;
+        let spans = spans_of(alloc, &balls, points.len())?;
         let xs = cuts_of(alloc, side, &balls, Axis::X)?;
         let ys = cuts_of(alloc, side, &balls, Axis::Y)?;
         Ok(Regions {
@@ -60,6 +63,7 @@ impl Regions {
             side,
             points,
             balls,
+            spans,
             xs,
             ys,
         })
@@ -82,9 +86,8 @@ impl Regions {
         ensures regions { AreRegions self.now }
     {
         let _tree = self.tree.parents();
-        let count = self.points.len();
-        let start = (edge as usize - 1) * count;
-        holds_any(part(&self.balls, start, count), x, y)
+        let span = self.spans[edge as usize - 1];
+        holds_any(part(&self.balls, span.start, span.count), x, y)
     }
 
     /// Whether Own of the edge holds the cell.

@@ -4,7 +4,7 @@ use Rattle.bp_join.specs.declared.entry.Entry.{Entry}
 use Rattle.bp_join.specs.declared.entry.Found.TheVariants.{Split, Closed, Open}
 use Rattle.bp_join.specs.Entries.{stacked}
 use Rattle.bp_join.specs.Trees.{TakesForest}
-use Rattle.bp_join.proofs.Takings.{TakenSoFar, taken_none, next_taken, taken_more, taken_all, some_there, top_is, split_next, split_taken, closed_taken, open_taken}
+use Rattle.bp_join.proofs.Takings.{TakenSoFar, taken_none, next_taken, taken_more, taken_all, some_there, top_is, split_next, split_taken, closed_copied, open_copied}
 use Rattle.bp_join.proofs.building.+trees.Goals as goal
 
 pub forest-loop-init : goal.forest-loop-init
@@ -38,21 +38,21 @@ tree-take-requires t c = some_there c.args.metric.now.tree c.args.metric.now.she
 
 pub tree-forest-requires : goal.tree-forest-requires
 tree-forest-requires t c =
-    let first = top_is c.args.metric.now.tree c.args.metric.now.sheet c.args.entries.now.items c.take.new.entries.items c.take.ensures.0 c.take.result (Split c.in-Split.pair) c.take.ensures.1 c.in-Split.is in
-    let next = split_next c.args.metric.now.tree c.args.metric.now.sheet _ _ c.take.ensures.0 c.in-Split.pair first c.requires in
-    (omega (arith, c.decreases, shorter c.args.entries.now.items c.take.new.entries.items _ c.take.ensures.1), next)
+    let first = top_is c.args.metric.now.tree c.args.metric.now.sheet c.args.entries.now.items c.take.new.entries.items c.take.result (Split c.in-Split.pair) c.take.ensures c.in-Split.is in
+    let next = split_next c.args.metric.now.tree c.args.metric.now.sheet _ _ c.take.result.path.now c.in-Split.pair first c.requires in
+    (omega (arith, c.decreases, shorter c.args.entries.now.items c.take.new.entries.items _ c.take.ensures), next)
 
 pub tree-returns-in_ok-children-in-Split-clause-tree : goal.tree-returns-in_ok-children-in-Split-clause-tree
 tree-returns-in_ok-children-in-Split-clause-tree t c =
-    let first = top_is c.args.metric.now.tree c.args.metric.now.sheet c.args.entries.now.items c.take.new.entries.items c.take.ensures.0 c.take.result (Split c.in-Split.pair) c.take.ensures.1 c.in-Split.is in
-    split_taken c.args.metric.now.tree c.args.metric.now.sheet _ _ _ c.take.ensures.0 c.in-Split.pair c.in_ok-children-in-Split.children first c.in_ok-children-in-Split.ensures.forest
+    let first = top_is c.args.metric.now.tree c.args.metric.now.sheet c.args.entries.now.items c.take.new.entries.items c.take.result (Split c.in-Split.pair) c.take.ensures c.in-Split.is in
+    split_taken c.args.metric.now.tree c.args.metric.now.sheet _ _ _ c.take.result.path.now c.in-Split.pair c.in_ok-children-in-Split.children first c.in_ok-children-in-Split.ensures.forest
 
 pub tree-returns-in-Closed-clause-tree : goal.tree-returns-in-Closed-clause-tree
 tree-returns-in-Closed-clause-tree t c =
-    let first = top_is c.args.metric.now.tree c.args.metric.now.sheet c.args.entries.now.items c.take.new.entries.items c.take.ensures.0 c.take.result (Closed c.in-Closed.claim) c.take.ensures.1 c.in-Closed.is in
-    closed_taken c.args.metric.now.tree c.args.metric.now.sheet _ _ c.take.ensures.0 c.in-Closed.claim first
+    let first = top_is c.args.metric.now.tree c.args.metric.now.sheet c.args.entries.now.items c.take.new.entries.items c.take.result (Closed c.in-Closed.claim) c.take.ensures c.in-Closed.is in
+    closed_copied c.args.metric.now.tree c.args.metric.now.sheet _ _ c.take.result.path.now c.in-Closed.claim.now _ c.copy.ensures first
 
 pub tree-returns-in-Open-clause-tree : goal.tree-returns-in-Open-clause-tree
 tree-returns-in-Open-clause-tree t c =
-    let first = top_is c.args.metric.now.tree c.args.metric.now.sheet c.args.entries.now.items c.take.new.entries.items c.take.ensures.0 c.take.result (Open c.in-Open.claim) c.take.ensures.1 c.in-Open.is in
-    open_taken c.args.metric.now.tree c.args.metric.now.sheet _ _ c.take.ensures.0 c.in-Open.claim first
+    let first = top_is c.args.metric.now.tree c.args.metric.now.sheet c.args.entries.now.items c.take.new.entries.items c.take.result (Open c.in-Open.claim) c.take.ensures c.in-Open.is in
+    open_copied c.args.metric.now.tree c.args.metric.now.sheet _ _ c.take.result.path.now c.in-Open.claim.now _ c.copy-in-Open.ensures first

@@ -1,4 +1,4 @@
-use Rattle.std.proofs.Common.{◌≡◌, ℕ, ◌+◌, ◌*◌, get_or, sym, ap, subst, arith}
+use Rattle.std.proofs.Common.{◌≡◌, ℕ, get_or, sym, ap, subst, arith}
 use Rattle.bp_pieces.specs.Labels.{Among, IsFound, Near, label_at}
 use Rattle.bp_pieces.proofs.Labelled.{among_within, near_range, own_found}
 use Rattle.bp_pieces.proofs.labels.least_near.Goals as goal

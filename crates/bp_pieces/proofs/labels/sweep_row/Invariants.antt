@@ -1,4 +1,4 @@
-use Rattle.std.proofs.Common.{◌≡◌, ℕ, ◌<◌, ◌≤◌, true, false}
+use Rattle.std.proofs.Common.{◌≡◌, ℕ, ◌<◌, true, false}
 use Rattle.std.specs.List.{sum}
 use Rattle.bp_pieces.specs.Labels.{Among, HasLabels, IsLowest, Near}
 use Rattle.bp_pieces.proofs.labels.sweep_row.Given as goal

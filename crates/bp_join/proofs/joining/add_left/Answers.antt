@@ -1,5 +1,0 @@
-use Rattle.bp_join.proofs.Takings.{opens_more}
-use Rattle.bp_join.proofs.joining.add_left.Goals as goal
-
-pub loop-task-preserved : goal.loop-task-preserved
-loop-task-preserved c = opens_more c.args.metric.now.tree c.args.metric.now.sheet c.loop-task.yielded c.in-Some.task c.args.entries.now.items c.loop-task.entries.items c.in_ok-entry_left.field-0 c.push.new.self.items c.loop-task.invariant c.in_ok-entry_left.ensures c.in_ok-push.ensures.items

@@ -1,0 +1,5 @@
+mod Distinct
+mod Grown
+mod Parts
+mod Told
+mod Unique
