@@ -54,6 +54,7 @@ module _ (M : MetricValue) (points : List Point) (side floor hands budget : ℕ)
     tasks = left;
     best = omega arith;
     placed = refl;
+    takes = omega arith;
   }
 
   no_tickets : AreSame [] (range_with_len 0 (min 0 budget))
@@ -72,6 +73,7 @@ module _ (M : MetricValue) (points : List Point) (side floor hands budget : ℕ)
         subst (IsLeastSide M.tree M.sheet side side) (sym (first_of (λ (h : HandValue). told h h.place) refl))
         (record { no_more = omega arith; least = λ v (k, r, less, at, solves). absurd (omega (arith, less)); reached = inl refl });
     tickets = subst (λ (ts : List ℕ). AreSame ts (range_with_len 0 (min 0 budget))) (sym (first_of tickets_of refl)) no_tickets;
+    word = omega arith;
     hands =
         All-cons (HasHandFacts M.tree M.sheet side side) (fresh side (root ∷ [])) (replicate (hands - 1) (fresh side []))
         (fresh_facts (root ∷ []) (All-cons (IsLeft M.tree M.sheet side) root [] root_left (λ k d less. absurd (omega (arith, less)))))

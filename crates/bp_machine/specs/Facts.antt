@@ -1,11 +1,13 @@
 -- The facts that a state of the machine keeps: no branch is lost or doubled, the side is the least found, each ticket is drawn once, all
--- bounds lie between the side and the opening's, all records are sound, and the best placements are valid.
-use Rattle.std.specs.Prelude.{◌≡◌, ◌⊎◌, ◌<◌, ◌≤◌, ◌-◌, ℕ, List, [], ◌∷◌, ◌++◌, Some, All, Any, MatchOption, length, map, min, slice_get, take}
-use Rattle.std.specs.List.{flat_map, range_with_len}
+-- bounds lie between the side and the opening's, all records are sound, and the best placements are valid. Beside these six, a hand that
+-- may take has taken nothing fewer than 64 times in a row, and the ticket word exceeds the budget by no more than one for each spent hand.
+use Rattle.std.specs.Prelude.{◌≡◌, ◌⊎◌, ◌<◌, ◌≤◌, ◌+◌, ◌-◌, ℕ, List, [], ◌∷◌, ◌++◌, Some, All, Any, MatchOption, length, map, min, slice_get, take}
+use Rattle.std.specs.List.{flat_map, range_with_len, sum_by}
 use Rattle.bp_base.specs.declared.point.Placement.{Placement}
 use Rattle.bp_base.specs.declared.point.Sheet.{Sheet}
 use Rattle.bp_base.specs.declared.record.Record.{Record}
 use Rattle.bp_base.specs.declared.record.Task.{Task}
+use Rattle.bp_base.specs.declared.record.Left.TheVariants.{Spent}
 use Rattle.bp_base.specs.Bags.{AreSame}
 use Rattle.bp_base.specs.Tree.{TreeValue}
 use Rattle.bp_metric.specs.Opening.{IsOpeningSide}
@@ -15,7 +17,8 @@ use Rattle.bp_core.specs.Settled.{Solves}
 use Rattle.bp_core.specs.Underway.{IsGiven, IsLeft}
 use Rattle.bp_turn.specs.Turns.{AreLowPoints}
 use Rattle.bp_machine.specs.declared.place.Place.{Place}
-use Rattle.bp_machine.specs.declared.place.Place.TheVariants.{Holding, Drawn, Offering, Pushing}
+use Rattle.bp_machine.specs.declared.place.Place.TheVariants.{Holding, Drawn, Offering, Pushing, Leaving, Gone}
+use Rattle.bp_machine.specs.Steps.{most_empty_takes}
 use Rattle.bp_machine.specs.State.{HandValue, StateValue}
 
 -- the task in hand
@@ -65,6 +68,18 @@ IsPlaced T G h (Offering p) =
 IsPlaced T G h Pushing = 0 < length h.unplaced
 IsPlaced T G h place = h.unplaced ≡ []
 
+-- so few empty takes in a row, while a hand may take
+abbrev pub HasTakesLeft : ℕ → Place → Type 0
+HasTakesLeft takes (Leaving left) = takes ≤ most_empty_takes
+HasTakesLeft takes (Gone left) = takes ≤ most_empty_takes
+HasTakesLeft takes place = takes < most_empty_takes
+
+-- 1 for a hand that has left, or is about to, since the budget is spent
+abbrev pub spends : Place → ℕ
+spends (Leaving Spent) = 1
+spends (Gone Spent) = 1
+spends place = 0
+
 -- what holds of each hand, for the opening's side u
 pub record HasHandFacts (T : TreeValue) (G : Sheet) (u side : ℕ) (h : HandValue) : Type 0 where
   pub known_no_less : side ≤ h.known
@@ -74,6 +89,7 @@ pub record HasHandFacts (T : TreeValue) (G : Sheet) (u side : ℕ) (h : HandValu
   pub tasks : All (IsLeft T G side) (tasks_of h)
   pub best : MatchOption h.best (side ≤ u) (IsBest T G side)
   pub placed : IsPlaced T G h h.place
+  pub takes : HasTakesLeft h.empty_takes h.place
 
 -- the side word is the least of the opening's side and of what the solved paths force whose sides are offered
 pub record IsLeastSide (T : TreeValue) (G : Sheet) (u side : ℕ) (records : List Record) : Type 0 where
@@ -91,5 +107,6 @@ pub record HasFacts (T : TreeValue) (G : Sheet) (S : StateValue) : Type 0 where
   pub conservation : IsBalanced T G (all_records S) (all_tasks S)
   pub least_side : IsLeastSide T G opening_side S.side (all_told S)
   pub tickets : AreSame (all_tickets S) (range_with_len 0 (min S.tickets S.budget))
+  pub word : S.tickets ≤ S.budget + sum_by (λ (h : HandValue). spends h.place) S.hands
   pub hands : All (HasHandFacts T G opening_side S.side) S.hands
   pub best : (S.side ≡ opening_side) ⊎ Any (IsReached S.side) S.hands

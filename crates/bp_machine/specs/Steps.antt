@@ -1,6 +1,7 @@
 -- The steps of the machine: which event a hand may take at which place, and what comes of it.
 use Rattle.std.specs.Prelude.{◌≡◌, ◌≢◌, ◌⊎◌, ◌+◌, ◌-◌, ℕ, List, [], ◌∷◌, ◌++◌, Option, None, Some, if◌then◌else◌, length, min, nat_lt, slice_set}
 use Rattle.bp_base.specs.declared.point.Placement.{Placement}
+use Rattle.bp_base.specs.declared.record.Left.{Left}
 use Rattle.bp_base.specs.declared.record.Left.TheVariants.{AtFloor, Spent, Idle}
 use Rattle.bp_base.specs.declared.record.RecordKind.{RecordKind}
 use Rattle.bp_base.specs.declared.record.RecordKind.TheVariants.{Split, Closed}
@@ -102,20 +103,21 @@ abbrev pub Keeps : HandValue → HandValue → Type 0
 Keeps h to =
     (rest : List Task) × (t : Task) × (h.unplaced ≡ rest ++ t ∷ []) × (to ≡ record h { place = place_with rest; unplaced = rest; kept = h.kept ++ t ∷ [] })
 
--- The table. Each event stands at one place of its hand.
+-- The table: the place of its hand at which each event stands, and what comes of it. No hand steals from itself.
 
-abbrev pub StepsAt : StateValue → HandValue → Place → Event → StateValue → Type 0
-StepsAt S h Ready (Load i) to = to ≡ with_hand S i (loaded S.side S.floor h)
-StepsAt S h Taking (Pop i) to = (next : HandValue) × Pops (length S.hands) i h next × (to ≡ with_hand S i next)
-StepsAt S h (Trying from) (Steal i g) to = (g ≡ from) × ((other : HandValue) × IsHand S g other × Steals S i g h other to)
-StepsAt S h (Holding t) (Draw i) to = to ≡ record (with_hand S i (drawn S.tickets S.budget h t)) { tickets = S.tickets + 1 }
-StepsAt S h (Drawn t ticket) (Examine i) to =
-    (turn : Turn) × (children : List Task) × IsTurn S.metric.tree S.metric.sheet t h.known ticket children turn × (to ≡ with_hand S i (examined h turn children))
-StepsAt S h (Offering p) (Offer i) to = to ≡ record (with_hand S i (offered h p)) { side = min S.side p.side }
-StepsAt S h Pushing (Push i) to = (next : HandValue) × Pushes h next × (to ≡ with_hand S i next)
-StepsAt S h Pushing (Keep i) to = (next : HandValue) × Keeps h next × (to ≡ with_hand S i next)
-StepsAt S h (Leaving left) (Leave i) to = to ≡ with_hand S i (record h { place = Gone left })
-StepsAt S h place event to = ⊥
+abbrev pub StepsAt : StateValue → HandValue → Event → StateValue → Type 0
+StepsAt S h (Load i) to = (h.place ≡ Ready) × (to ≡ with_hand S i (loaded S.side S.floor h))
+StepsAt S h (Pop i) to = (h.place ≡ Taking) × ((next : HandValue) × Pops (length S.hands) i h next × (to ≡ with_hand S i next))
+StepsAt S h (Steal i g) to = (h.place ≡ Trying g) × (g ≢ i) × ((other : HandValue) × IsHand S g other × Steals S i g h other to)
+StepsAt S h (Draw i) to =
+    (t : Task) × (h.place ≡ Holding t) × (to ≡ record (with_hand S i (drawn S.tickets S.budget h t)) { tickets = S.tickets + 1 })
+StepsAt S h (Examine i) to =
+    (t : Task) × (ticket : ℕ) × (h.place ≡ Drawn t ticket)
+    × ((turn : Turn) × (children : List Task) × IsTurn S.metric.tree S.metric.sheet t h.known ticket children turn × (to ≡ with_hand S i (examined h turn children)))
+StepsAt S h (Offer i) to = (p : Placement) × (h.place ≡ Offering p) × (to ≡ record (with_hand S i (offered h p)) { side = min S.side p.side })
+StepsAt S h (Push i) to = (h.place ≡ Pushing) × ((next : HandValue) × Pushes h next × (to ≡ with_hand S i next))
+StepsAt S h (Keep i) to = (h.place ≡ Pushing) × ((next : HandValue) × Keeps h next × (to ≡ with_hand S i next))
+StepsAt S h (Leave i) to = (left : Left) × (h.place ≡ Leaving left) × (to ≡ with_hand S i (record h { place = Gone left }))
 
 abbrev pub hand_of : Event → ℕ
 hand_of (Pop i) = i
@@ -130,4 +132,4 @@ hand_of (Leave i) = i
 
 -- the event leads from one state to the other
 abbrev pub Steps : StateValue → Event → StateValue → Type 0
-Steps S event to = (h : HandValue) × IsHand S (hand_of event) h × StepsAt S h h.place event to
+Steps S event to = (h : HandValue) × IsHand S (hand_of event) h × StepsAt S h event to

@@ -12,13 +12,13 @@ use std::marker::Model;
 #[derive(Drop)]
 pub struct Hand {
     pub place: Place,
-    deque: VecDeque<Task>,
-    kept: Sequence<Task>,
-    unplaced: Sequence<Task>,
-    known: u64,
-    records: Sequence<Record>,
-    best: Option<Placement>,
-    empty_takes: u64,
+    pub deque: VecDeque<Task>,
+    pub kept: Vec<Task>,
+    pub unplaced: Sequence<Task>,
+    pub known: u64,
+    pub records: Vec<Record>,
+    pub best: Option<Placement>,
+    pub empty_takes: u64,
 }
 
 impl Model for Hand {
@@ -26,7 +26,7 @@ impl Model for Hand {
 
     ghost Value = { HandValue };
 
-    ghost view = { λ h. record { place = h.place; deque = h.deque.items; kept = h.kept; unplaced = h.unplaced; known = h.known; records = h.records; best = h.best; empty_takes = h.empty_takes } };
+    ghost view = { λ h. record { place = h.place; deque = h.deque.items; kept = h.kept.items; unplaced = h.unplaced; known = h.known; records = h.records.items; best = h.best; empty_takes = h.empty_takes } };
 }
 
 impl Hand {
@@ -37,10 +37,10 @@ impl Hand {
         Hand {
             place: Place::Ready,
             deque: VecDeque::new(alloc),
-            kept: Sequence::new(alloc),
+            kept: Vec::new(alloc),
             unplaced: Sequence::new(alloc),
             known: side,
-            records: Sequence::new(alloc),
+            records: Vec::new(alloc),
             best: None,
             empty_takes: 0,
         }

@@ -18,24 +18,25 @@ use std::marker::Model;
 pub struct State {
     tree: Tree,
     sheet: Sheet,
-    hands: Vec<Hand>,
+    pub(crate) hands: Vec<Hand>,
     // one for each hand
-    examiners: Vec<Examiner>,
-    side: u64,
-    tickets: u64,
-    budget: u64,
-    floor: u64,
+    pub(crate) examiners: Vec<Examiner>,
+    pub(crate) side: u64,
+    pub(crate) tickets: u64,
+    pub(crate) budget: u64,
+    pub(crate) floor: u64,
 }
 
 impl Model for State {
-    ghost use Rattle.std.specs.Prelude.{◌≡◌, length, replicate};
+    ghost use Rattle.std.specs.Prelude.{◌≡◌, ◌≤◌, length, replicate};
+    ghost use Rattle.bp_base.specs.Limits.{most_budget, most_hands};
     ghost use Rattle.bp_machine.specs.State.{StateValue};
 
     ghost Value = { StateValue };
 
     ghost view = { λ s. record { metric = record { tree = s.tree; sheet = s.sheet }; hands = s.hands.items; side = s.side; tickets = s.tickets; budget = s.budget; floor = s.floor } };
 
-    ghost invariant = { λ s. s.examiners.items ≡ replicate (length s.hands.items) (record { tree = s.tree; sheet = s.sheet }) };
+    ghost invariant = { λ s. (s.examiners.items ≡ replicate (length s.hands.items) (record { tree = s.tree; sheet = s.sheet })) × (length s.hands.items ≤ most_hands) × (s.budget ≤ most_budget) };
 }
 
 impl State {
@@ -56,6 +57,27 @@ impl State {
         requires hands { (1 ≤ hands) × (hands ≤ most_hands) }
         requires budget { (1 ≤ budget) × (budget ≤ most_budget) }
         ensures state { IfOk result (λ S. S ≡ begun metric.now opening.side floor hands budget) }
+        ensures facts { IfOk result (λ S. HasFacts metric.now.tree metric.now.sheet S) }
+    {
+        State::begin(alloc, metric, &opening, floor, hands, budget)
+    }
+
+    /// The same, of an opening that is lent.
+    pub(crate) fn begin(
+        alloc: Global,
+        metric: &Metric,
+        opening: &Placement,
+        floor: u64,
+        hands: u64,
+        budget: u64,
+    ) -> Result<State, NoMemory>
+        requires opening { IsOpening metric.now.tree metric.now.sheet opening.now.points }
+        requires side { opening.now.side ≡ side_of metric.now.sheet opening.now.points }
+        requires floor { IsFloorSide metric.now.tree metric.now.sheet floor }
+        requires above { floor < opening.now.side }
+        requires hands { (1 ≤ hands) × (hands ≤ most_hands) }
+        requires budget { (1 ≤ budget) × (budget ≤ most_budget) }
+        ensures state { IfOk result (λ S. S ≡ begun metric.now opening.now.side floor hands budget) }
         ensures facts { IfOk result (λ S. HasFacts metric.now.tree metric.now.sheet S) }
     {
         let side = opening.side;

@@ -1,5 +1,4 @@
 mod Beginnings
 mod Ended
 mod Lists
-mod Small
 mod Turned

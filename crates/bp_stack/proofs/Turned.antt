@@ -37,7 +37,7 @@ use Rattle.bp_turn.specs.Turns.{IsFound, IsTurn, child, tasks_of}
 use Rattle.bp_turn.proofs.Forced.{one_forced}
 use Rattle.bp_stack.specs.Turns.{IsOnItsWay, IsTaken, followed}
 use Rattle.bp_stack.proofs.Lists.{all_front, all_last, all_reverse, any_front, any_push_cases, balanced_more, same_reverse, tickets_more}
-use Rattle.bp_stack.proofs.Small.{opening_small}
+use Rattle.bp_core.proofs.Small.{opening_small}
 
 module _ (T : TreeValue) (G : Sheet) where
   -- where the side falls, records stay sound and branches left stay so

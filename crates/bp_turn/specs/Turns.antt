@@ -1,5 +1,5 @@
 -- One turn of a search: a task is examined against a bound, which gives its record, its children, and its placement where it is solved.
-use Rattle.std.specs.Prelude.{◌≡◌, ℕ, min, List, [], length, map, Option, None, Some}
+use Rattle.std.specs.Prelude.{◌≡◌, ◌⊎◌, ℕ, min, List, [], length, map, Option, None, Some}
 use Rattle.bp_base.specs.declared.path.Choice.{Choice}
 use Rattle.bp_base.specs.declared.path.Pair.{Pair}
 use Rattle.bp_base.specs.declared.path.Step.{Step}
@@ -13,7 +13,8 @@ use Rattle.bp_base.specs.declared.record.Task.{Task}
 use Rattle.bp_base.specs.Point.{point_at}
 use Rattle.bp_base.specs.Tree.{TreeValue, IsLeaf, leaf_count}
 use Rattle.bp_metric.specs.Choices.{allowed}
-use Rattle.bp_metric.specs.Coordinates.{IsLow, IsShown}
+use Rattle.bp_metric.specs.Chains.{HasCycle}
+use Rattle.bp_metric.specs.Coordinates.{IsCycleShown, IsLow, IsShown}
 use Rattle.bp_metric.specs.Next.{IsNextPair}
 use Rattle.bp_metric.specs.Refutation.{extended}
 use Rattle.bp_branch.specs.Outcomes.{IsClosed, IsSolved, IsSplit}
@@ -32,6 +33,16 @@ IsFound T G path bound (Split p) (Some placement) = ⊥
 IsFound T G path bound (Closed claim) None = IsShown T G path claim × IsClosed T G path bound
 IsFound T G path bound (Closed claim) (Some placement) =
     IsShown T G path claim × IsSolved T G path bound placement.side × AreLowPoints T path placement.points
+
+-- a path with a cycle is closed by one
+abbrev pub IsCycleFound : TreeValue → List Step → RecordKind → Option Placement → Type 0
+IsCycleFound T path (Closed claim) None = IsCycleShown (leaf_count T) path claim
+IsCycleFound T path (Closed claim) (Some placement) = ⊥
+IsCycleFound T path (Split p) placement = ⊥
+
+-- what judging any path gives: it has no cycle and is found as a branch is, or it has one
+abbrev pub IsFoundOrCyclic : TreeValue → Sheet → List Step → ℕ → RecordKind → Option Placement → Type 0
+IsFoundOrCyclic T G path bound kind placement = ((HasCycle (leaf_count T) path → ⊥) × IsFound T G path bound kind placement) ⊎ IsCycleFound T path kind placement
 
 -- the task of the path with one more step
 abbrev pub child : List Step → ℕ → Pair → Choice → Task

@@ -1,9 +1,10 @@
 // Examining tasks, one after the other.
-ghost use Rattle.std.specs.Prelude.{◌≡◌, ◌<◌, ◌≤◌, [], ℕ, length, min, take, IfOk, MatchOption, OnErr};
+ghost use Rattle.std.specs.Prelude.{◌≡◌, ◌≢◌, ◌<◌, ◌≤◌, [], ℕ, length, min, take, AllPairs, IfOk, MatchOption, OnErr};
 ghost use Rattle.bp_base.specs.declared.path.Pair.{Pair as AnyPair};
 ghost use Rattle.bp_base.specs.Limits.{most_leaves, most_number, most_steps};
 ghost use Rattle.bp_base.specs.Tree.{leaf_count};
-ghost use Rattle.bp_metric.specs.Coordinates.{IsLeast};
+ghost use Rattle.bp_metric.specs.Chains.{HasPairsOf};
+ghost use Rattle.bp_metric.specs.Coordinates.{IsCycleShown, IsLeast};
 ghost use Rattle.bp_metric.specs.Metric.{MetricValue};
 ghost use Rattle.bp_metric.specs.Next.{IsNextPair};
 ghost use Rattle.bp_metric.specs.Valid.{Valid};
@@ -11,10 +12,12 @@ ghost use Rattle.bp_branch.specs.Branches.{IsBranch};
 ghost use Rattle.bp_branch.specs.Orders.{IsPairOrder};
 ghost use Rattle.bp_branch.specs.Outcomes.{IsCyclic, IsOutcome};
 ghost use Rattle.bp_warm.specs.Warm.{WarmValue, pair_count};
-ghost use Rattle.bp_turn.specs.Turns.{IsFound, IsTurn, tasks_of};
+ghost use Rattle.bp_turn.specs.Turns.{IsFound, IsFoundOrCyclic, IsTurn, tasks_of};
 
 use crate::children::make_children;
-use bp_base::{Least, NoMemory, Outcome, Path, Placement, Record, RecordKind, Sequence, Task};
+use bp_base::{
+    Claim, Least, NoMemory, Outcome, Path, Placement, Record, RecordKind, Sequence, Task,
+};
 use bp_branch::{PairOrder, low_points};
 use bp_metric::Metric;
 use bp_pairs::allowed;
@@ -88,6 +91,35 @@ impl Examiner {
         found(alloc, metric, least, path, bound, outcome, children)
     }
 
+    /// The same for any path of different pairs of leaves: where it has a cycle, that closes it.
+    pub fn judge_any(
+        &mut self,
+        alloc: Global,
+        metric: &Metric,
+        path: &Path,
+        bound: u64,
+        children: &mut Sequence<Task>,
+    ) -> Result<(RecordKind, Option<Placement>), NoMemory>
+        requires metric { metric.now ≡ self.old }
+        requires pairs { HasPairsOf (leaf_count metric.now.tree) path.now }
+        requires differ { AllPairs (λ s t. s.pair ≢ t.pair) path.now }
+        requires bound { bound ≤ most_number }
+        requires empty { children.old ≡ [] }
+        ensures metric { self.new ≡ self.old }
+        ensures found { IfOk result (λ r. IsFoundOrCyclic metric.now.tree metric.now.sheet path.now bound r.0 r.1) }
+        ensures children { IfOk result (λ r. children.new ≡ tasks_of metric.now.tree metric.now.sheet path.now bound r.0) }
+        ensures valid { IfOk result (λ r. MatchOption r.1 (1 ≤ 1) (λ p. Valid metric.now.tree metric.now.sheet 1 p.side p.points)) }
+        ensures err { OnErr result (children.new ≡ []) }
+    {
+        let _leaves = metric.leaves();
+        if let Some(claim) = go_or_stop(&mut self.warm, &mut self.at, metric, path)? {
+            return Ok((RecordKind::Closed { claim }, None));
+        }
+        let least = self.warm.least();
+        let outcome = self.order.judge(metric, least, bound);
+        found_of_pairs(alloc, metric, least, path, bound, outcome, children)
+    }
+
     /// Examines the task against the lesser of its bound and the known side, which are in grid units. Its record has the ticket; the
     /// children of a split are put into `children`, which is empty before, and after NoMemory too. The metric is that of `open`.
     pub fn examine(
@@ -139,6 +171,32 @@ fn go_to(warm: &mut Warm, at: &mut Path, metric: &Metric, path: &Path) -> Result
     }
 }
 
+// Goes to a path in the same way, or finds a cycle of it.
+fn go_or_stop(
+    warm: &mut Warm,
+    at: &mut Path,
+    metric: &Metric,
+    path: &Path,
+) -> Result<Option<Claim>, NoMemory>
+    requires metric { metric.now ≡ warm.old.metric }
+    requires pairs { HasPairsOf (leaf_count metric.now.tree) path.now }
+    requires differ { AllPairs (λ s t. s.pair ≢ t.pair) path.now }
+    requires beginning { (length at.old ≤ length warm.old.path) × (at.old ≡ take (length at.old) warm.old.path) }
+    ensures metric { warm.new.metric ≡ metric.now }
+    ensures path { IfOk result (λ r. MatchOption r (warm.new.path ≡ path.now) (λ claim. IsCycleShown (leaf_count metric.now.tree) path.now claim)) }
+    ensures beginning { (length at.new ≤ length warm.new.path) × (at.new ≡ take (length at.new) warm.new.path) }
+{
+    let _leaves = metric.leaves();
+    let common = at.common(path);
+    cut(at, common);
+    if let Some(claim) = warm.go_from(metric, path, common) {
+        cut(at, 0);
+        return Ok(Some(claim));
+    }
+    keep_up(at, path)?;
+    Ok(None)
+}
+
 // Takes steps off the end, until so many are left.
 fn cut(at: &mut Path, steps: u64)
     requires { steps ≤ length at.old }
@@ -158,6 +216,32 @@ fn keep_up(at: &mut Path, path: &Path) -> Result<(), NoMemory>
         at.push(path.at(k))?;
     }
     Ok(())
+}
+
+// What an outcome gives for a path of different pairs of leaves.
+fn found_of_pairs(
+    alloc: Global,
+    metric: &Metric,
+    least: &Least,
+    path: &Path,
+    bound: u64,
+    outcome: Outcome,
+    children: &mut Sequence<Task>,
+) -> Result<(RecordKind, Option<Placement>), NoMemory>
+    requires least { IsLeast metric.now.tree metric.now.sheet path.now least.now }
+    requires outcome { IsOutcome metric.now.tree metric.now.sheet path.now bound outcome }
+    requires no_cycle { IsCyclic outcome → ⊥ }
+    requires pairs { HasPairsOf (leaf_count metric.now.tree) path.now }
+    requires differ { AllPairs (λ s t. s.pair ≢ t.pair) path.now }
+    requires bound { bound ≤ most_number }
+    requires empty { children.old ≡ [] }
+    ensures found { IfOk result (λ r. IsFound metric.now.tree metric.now.sheet path.now bound r.0 r.1) }
+    ensures children { IfOk result (λ r. children.new ≡ tasks_of metric.now.tree metric.now.sheet path.now bound r.0) }
+    ensures valid { IfOk result (λ r. MatchOption r.1 (1 ≤ 1) (λ p. Valid metric.now.tree metric.now.sheet 1 p.side p.points)) }
+    ensures err { OnErr result (children.new ≡ []) }
+{
+    let _leaves = metric.leaves();
+    found(alloc, metric, least, path, bound, outcome, children)
 }
 
 // What an outcome gives for the path of these least coordinates. A branch has no cycle.

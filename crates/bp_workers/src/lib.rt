@@ -1,0 +1,12 @@
+//! Hands on threads: workers that share a pool of tasks and a board.
+#![tactic(auto)]
+
+mod hands;
+mod laws;
+#[cfg(test)]
+mod tests;
+mod worker;
+
+pub use hands::run_hands;
+pub use laws::law_of_hands;
+pub use worker::Worker;
