@@ -1,8 +1,9 @@
 -- Bytes are cut before the first marked one in one way.
-use Rattle.std.proofs.Common.{◌≡◌, ℕ, suc, ◌+◌, ◌-◌, ◌<◌, true, false, List, [], ◌∷◌, ◌++◌, length, get_or, take, drop, All, refl, sym, ◌∙◌, ap, subst, arith}
+use Rattle.std.proofs.Common.{◌≡◌, ℕ, suc, ◌+◌, ◌-◌, ◌<◌, true, false, List, [], ◌∷◌, ◌++◌, length, get_or, take, drop, All, refl, sym, ◌∙◌, ap, subst, arith, append_assoc}
 use Rattle.std.proofs.lemmas.Bool.{false≢true}
 use Rattle.std.proofs.lemmas.List.{length-take-le, get_or-take, take-append-drop, drop_more, drop_all, take_rest, append-nil}
 use Rattle.std.proofs.lemmas.List.Elements.{All-from_get_or}
+use Rattle.bp_document.proofs.Spelling.{NoEnd}
 use Rattle.bp_certificate.specs.declared.mark.Mark.{Mark}
 use Rattle.bp_certificate.specs.Words.{Begins, IsCut, is_marked}
 
@@ -44,3 +45,17 @@ module _ (mark : Mark) where
       let rest = one_cut a b x y (others c a free) (others d b free') begins begins' (ap (drop 1) same) in
       let head : c ≡ d = ap (λ (l : List ℕ). get_or l 0 0) same in
       (λ i. head i ∷ rest.0 i, rest.1)
+
+-- two ways to cut off a line
+pub cut_line : (b c x y : List ℕ) → NoEnd b → NoEnd c → b ++ 10 ∷ x ≡ c ++ 10 ∷ y → (b ≡ c) × (x ≡ y)
+cut_line [] [] x y free free' same = (refl, ap (drop 1) same)
+cut_line [] (d ∷ c) x y free free' same = absurd (free' 0 0 (omega arith) (sym (ap (λ (l : List ℕ). get_or l 0 0) same)))
+cut_line (a ∷ b) [] x y free free' same = absurd (free 0 0 (omega arith) (ap (λ (l : List ℕ). get_or l 0 0) same))
+cut_line (a ∷ b) (d ∷ c) x y free free' same =
+    let head : a ≡ d = ap (λ (l : List ℕ). get_or l 0 0) same in
+    let rest = cut_line b c x y (λ k e less. free (suc k) e (omega (arith, less))) (λ k e less. free' (suc k) e (omega (arith, less))) (ap (drop 1) same) in
+    (λ i. head i ∷ rest.0 i, rest.1)
+
+-- what follows the first of some lines
+pub cut_first : (b lines rest : List ℕ) → ((b ++ 10 ∷ []) ++ lines) ++ rest ≡ b ++ 10 ∷ (lines ++ rest)
+cut_first b lines rest = append_assoc (b ++ 10 ∷ []) lines rest ∙ append_assoc b (10 ∷ []) (lines ++ rest)

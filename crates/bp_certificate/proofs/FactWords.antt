@@ -4,7 +4,7 @@ use Rattle.std.specs.Prelude.{codes, if◌then◌else◌}
 use Rattle.std.proofs.lemmas.Bool.{ne_eqb, eqb-true, eqb-false}
 use Rattle.std.proofs.lemmas.List.{append-nil, drop_more, take_rest}
 use Rattle.std.proofs.lemmas.List.Elements.{All-cons, All-nil, All-append, All-from_get_or}
-use Rattle.std.proofs.lemmas.Fmt.{decimal_is_IsNumeral}
+use Rattle.std.proofs.lemmas.Fmt.{decimal_is_IsNumeral, decimal_injective}
 use Rattle.std.proofs.lemmas.Str.Parse.{digit_at}
 use Rattle.bp_base.specs.declared.path.Pair.{Pair}
 use Rattle.bp_base.specs.declared.point.Axis.{Axis}
@@ -12,12 +12,14 @@ use Rattle.bp_base.specs.declared.point.Axis.TheVariants.{X, Y}
 use Rattle.bp_base.specs.Limits.{most_number}
 use Rattle.bp_arrangement.specs.declared.fact.Fact.{Fact}
 use Rattle.bp_arrangement.specs.declared.fact.Fact.TheVariants.{Before, NotBefore, Least, Below}
+use Rattle.bp_arrangement.specs.declared.fact.Hint.{Hint}
 use Rattle.bp_arrangement.specs.declared.fact.Hint.TheVariants.{Pair as OfPair, Lemma as OfLemma}
 use Rattle.bp_text.specs.Numbers.{IsDecimal}
 use Rattle.bp_document.specs.Lines.{axis_word}
+use Rattle.bp_document.specs.Nodes.{IsPairOfNumbers}
 use Rattle.bp_certificate.specs.declared.mark.Mark.TheVariants.{Sign, Other, Dash}
 use Rattle.bp_certificate.specs.Lines.{coordinate, fact_word, hint_word}
-use Rattle.bp_certificate.specs.Ranges.{IsSmallFact}
+use Rattle.bp_certificate.specs.Ranges.{IsSmallFact, IsSmallHint}
 use Rattle.bp_certificate.specs.Words.{AreParts, Begins, IsCut, ReadsFact, ReadsHint, ReadsNotBefore, ReadsParts, back_of, front_of, is_marked, is_sign, sign_of}
 use Rattle.bp_certificate.proofs.Cutting.{one_cut}
 
@@ -194,3 +196,95 @@ module _ (w front back : List ℕ) (cut : IsCut Dash w front back) where
   unfolding hint_word
   pair_hint rest i j some is first second =
       ((first.1, second.1), cut.whole ∙ (λ t. first.0 t ++ dash_first back cut.begins some t) ∙ ap (λ (u : List ℕ). decimal i ++ 45 ∷ u) (sym is ∙ second.0))
+
+-- two facts share no word
+number_one : (n m : ℕ) → n ≤ most_number → m ≤ most_number → decimal n ≡ decimal m → n ≡ m
+number_one n m small small' same = decimal_injective n m (omega (arith, small)) (omega (arith, small')) same
+
+coordinate_one : (axis other : Axis) (i j : ℕ) → i ≤ most_number → j ≤ most_number → coordinate axis i ≡ coordinate other j → (axis ≡ other) × (i ≡ j)
+coordinate_one X X i j small small' same = (refl, number_one i j small small' (ap (drop 1) same))
+coordinate_one X Y i j small small' same = absurd (omega (arith, ap (λ (w : List ℕ). get_or w 0 0) same))
+coordinate_one Y X i j small small' same = absurd (omega (arith, ap (λ (w : List ℕ). get_or w 0 0) same))
+coordinate_one Y Y i j small small' same = (refl, number_one i j small small' (ap (drop 1) same))
+
+-- codes with one half and one parity are one
+same_code : (c d : ℕ) (even : Bool) → (c % 2 == 0) ≡ even → (d % 2 == 0) ≡ even → c / 2 ≡ d / 2 → c ≡ d
+same_code c d true is is' half = omega (arith, eqb-true (c % 2) 0 is, eqb-true (d % 2) 0 is', half)
+same_code c d false is is' half = omega (arith, eqb-false (c % 2) 0 is, eqb-false (d % 2) 0 is', half)
+
+least_parity : (a b : Bool) → (if a then codes ">=" else codes ">") ≡ (if b then codes ">=" else codes ">") → a ≡ b
+least_parity true true same = refl
+least_parity true false same = absurd (omega (arith, ap (λ (w : List ℕ). length w) same))
+least_parity false true same = absurd (omega (arith, ap (λ (w : List ℕ). length w) same))
+least_parity false false same = refl
+
+below_parity : (a b : Bool) → (if a then codes "<" else codes "<=") ≡ (if b then codes "<" else codes "<=") → a ≡ b
+below_parity true true same = refl
+below_parity true false same = absurd (omega (arith, ap (λ (w : List ℕ). length w) same))
+below_parity false true same = absurd (omega (arith, ap (λ (w : List ℕ). length w) same))
+below_parity false false same = refl
+
+bounds_apart : (a b : Bool) → (if a then codes ">=" else codes ">") ≡ (if b then codes "<" else codes "<=") → ⊥
+bounds_apart true true same = omega (arith, ap (λ (w : List ℕ). get_or w 0 0) same)
+bounds_apart true false same = omega (arith, ap (λ (w : List ℕ). get_or w 0 0) same)
+bounds_apart false true same = omega (arith, ap (λ (w : List ℕ). get_or w 0 0) same)
+bounds_apart false false same = omega (arith, ap (λ (w : List ℕ). get_or w 0 0) same)
+
+one_of_parts : (f g : Fact) → IsSmallFact f → IsSmallFact g → AreParts (front_of g) (sign_of g) (back_of g) f → f ≡ g
+one_of_parts (Before a i j) (Before b k l) small small' parts =
+    let first = coordinate_one b a k i small'.0 small.0 parts.0 in
+    let second = coordinate_one b a l j small'.1 small.1 parts.2 in
+    sym (λ t. Before (first.0 t) (first.1 t) (second.1 t))
+one_of_parts (Before a i j) (NotBefore b k l) small small' parts = absurd (axis_first a i (sym (ap (λ (w : List ℕ). get_or w 0 0) parts.0)))
+one_of_parts (Before a i j) (Least b k c) small small' parts = absurd (sign_apart (c % 2 == 0) (sym parts.1))
+one_of_parts (Before a i j) (Below b k c) small small' parts = absurd (sign_apart_below (c % 2 == 0) (sym parts.1))
+one_of_parts (NotBefore a i j) (Before b k l) small small' parts = absurd (axis_first b k (ap (λ (w : List ℕ). get_or w 0 0) parts.0))
+one_of_parts (NotBefore a i j) (NotBefore b k l) small small' parts =
+    let first = coordinate_one b a k i small'.0 small.0 (ap (drop 1) parts.0) in
+    let second = coordinate_one b a l j small'.1 small.1 parts.2 in
+    sym (λ t. NotBefore (first.0 t) (first.1 t) (second.1 t))
+one_of_parts (NotBefore a i j) (Least b k c) small small' parts = absurd (sign_apart (c % 2 == 0) (sym parts.1))
+one_of_parts (NotBefore a i j) (Below b k c) small small' parts = absurd (sign_apart_below (c % 2 == 0) (sym parts.1))
+one_of_parts (Least a i c) (Before b k l) small small' parts = absurd (sign_apart (c % 2 == 0) parts.1)
+one_of_parts (Least a i c) (NotBefore b k l) small small' parts = absurd (sign_apart (c % 2 == 0) parts.1)
+one_of_parts (Least a i c) (Least b k d) small small' parts =
+    let first = coordinate_one b a k i small'.0 small.0 parts.0 in
+    let half = number_one (d / 2) (c / 2) (half_small d small'.1) (half_small c small.1) parts.2 in
+    let code = same_code d c (c % 2 == 0) (least_parity (d % 2 == 0) (c % 2 == 0) parts.1) refl half in
+    sym (λ t. Least (first.0 t) (first.1 t) (code t))
+one_of_parts (Least a i c) (Below b k d) small small' parts = absurd (bounds_apart (c % 2 == 0) (d % 2 == 0) (sym parts.1))
+one_of_parts (Below a i c) (Before b k l) small small' parts = absurd (sign_apart_below (c % 2 == 0) parts.1)
+one_of_parts (Below a i c) (NotBefore b k l) small small' parts = absurd (sign_apart_below (c % 2 == 0) parts.1)
+one_of_parts (Below a i c) (Least b k d) small small' parts = absurd (bounds_apart (d % 2 == 0) (c % 2 == 0) parts.1)
+one_of_parts (Below a i c) (Below b k d) small small' parts =
+    let first = coordinate_one b a k i small'.0 small.0 parts.0 in
+    let half = number_one (d / 2) (c / 2) (half_small d small'.1) (half_small c small.1) parts.2 in
+    let code = same_code d c (c % 2 == 0) (below_parity (d % 2 == 0) (c % 2 == 0) parts.1) refl half in
+    sym (λ t. Below (first.0 t) (first.1 t) (code t))
+
+pub fact_one : (f g : Fact) → IsSmallFact f → IsSmallFact g → fact_word f ≡ fact_word g → f ≡ g
+fact_one f g small small' same =
+    let first : IsCut Sign (fact_word g) (front_of g) (sign_of g ++ back_of g) = record { whole = parts_are g; free = front_no_sign g small'; begins = sign_begins g } in
+    let second : IsCut Other (sign_of g ++ back_of g) (sign_of g) (back_of g) = record { whole = refl; free = sign_all g; begins = begins_other (back_of g) (back_no_sign g small') } in
+    one_of_parts f g small small' (parts_of_word (fact_word g) (front_of g) (sign_of g ++ back_of g) (sign_of g) (back_of g) first second f small (sym same))
+
+-- two hints share no word
+pair_is_cut : (q : Pair) → IsPairOfNumbers q → IsCut Dash (hint_word (OfPair q)) (decimal q.i) (45 ∷ decimal q.j)
+unfolding hint_word
+pair_is_cut q small = record { whole = refl; free = number_no_dash q.i small.0; begins = refl }
+
+no_number : (p : Pair) (n : ℕ) → IsPairOfNumbers p → n ≤ most_number → hint_word (OfPair p) ≡ hint_word (OfLemma n) → ⊥
+no_number p n small small' same =
+    let cut = number_cut (hint_word (OfPair p)) (decimal p.i) (45 ∷ decimal p.j) (pair_is_cut p small) n small' same in
+    omega (arith, ap length cut.1)
+
+pub hint_one : (h k : Hint) → IsSmallHint h → IsSmallHint k → hint_word h ≡ hint_word k → h ≡ k
+unfolding hint_word
+hint_one (OfPair p) (OfPair q) small small' same =
+    let cut = pair_cut (hint_word (OfPair q)) (decimal q.i) (45 ∷ decimal q.j) (pair_is_cut q small') p small.0 (sym same) in
+    let i = number_one p.i q.i small.0 small'.0 (sym cut.0) in
+    let j = number_one p.j q.j small.1 small'.1 (sym (ap (drop 1) cut.1)) in
+    λ t. OfPair (record { i = i t; j = j t })
+hint_one (OfPair p) (OfLemma n) small small' same = absurd (no_number p n small small' same)
+hint_one (OfLemma n) (OfPair q) small small' same = absurd (no_number q n small' small (sym same))
+hint_one (OfLemma n) (OfLemma m) small small' same = ap OfLemma (number_one n m small small' same)

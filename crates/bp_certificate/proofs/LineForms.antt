@@ -110,14 +110,20 @@ module _ (bytes : List ℕ) where
   unfolding swap_line
   swap_read swap reads = record { text = line_of_words bytes (codes "swap") (flat_map pair_words swap) reads.1; small = reads.0 }
 
+  pub corner_line_words : (corner : Option Pair) → IsCornerForm bytes corner → words bytes ≡ codes "corner" ∷ corner_words corner
+  corner_line_words corner is = words_of_line bytes (codes "corner") (corner_words corner) (spelled_word (codes "corner") refl) (corner_is_words corner is.small) is.text
+
   pub no_corner : ReadsCorner (words bytes) None → (corner : Option Pair) → IsCornerForm bytes corner → ⊥
-  no_corner reads corner is = reads corner is.small (words_of_line bytes (codes "corner") (corner_words corner) (spelled_word (codes "corner") refl) (corner_is_words corner is.small) is.text)
+  no_corner reads corner is = reads corner is.small (corner_line_words corner is)
 
   pub corner_read : (corner : Option Pair) → ReadsCorner (words bytes) (Some corner) → IsCornerForm bytes corner
   corner_read corner reads = record { text = line_of_words bytes (codes "corner") (corner_words corner) reads.1; small = reads.0 }
 
+  pub count_line_words : (count : Option ℕ) → IsCountForm bytes count → words bytes ≡ codes "lemmas" ∷ count_words count
+  count_line_words count is = words_of_line bytes (codes "lemmas") (count_words count) (spelled_word (codes "lemmas") refl) (count_is_words count is.range) is.text
+
   pub no_count : ReadsCount (words bytes) None → (count : Option ℕ) → IsCountForm bytes count → ⊥
-  no_count reads count is = reads count is.range (words_of_line bytes (codes "lemmas") (count_words count) (spelled_word (codes "lemmas") refl) (count_is_words count is.range) is.text)
+  no_count reads count is = reads count is.range (count_line_words count is)
 
   pub count_read : (count : Option ℕ) → ReadsCount (words bytes) (Some count) → IsCountForm bytes count
   count_read count reads = record { text = line_of_words bytes (codes "lemmas") (count_words count) reads.1; range = reads.0 }

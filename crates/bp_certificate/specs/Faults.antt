@@ -1,5 +1,5 @@
 -- The first fault of bytes that are no certificate's text. The kinds are those of a document, of which depths have none here.
-use Rattle.std.specs.Prelude.{◌≡◌, ◌≢◌, ◌⊎◌, ℕ, ◌+◌, ◌<◌, ◌≤◌, ◌==◌, List, [], length, count_by, All, Bool, true, false, Option, Result, Ok, Err}
+use Rattle.std.specs.Prelude.{◌≡◌, ◌≢◌, ◌⊎◌, ℕ, ◌+◌, ◌<◌, ◌≤◌, ◌==◌, List, [], length, count_by, All, Bool, false, Option, Result, Ok, Err}
 use Rattle.bp_base.specs.declared.path.Pair.{Pair}
 use Rattle.bp_base.specs.declared.point.Sheet.{Sheet}
 use Rattle.bp_base.specs.Limits.{most_document_bytes}
@@ -32,15 +32,17 @@ HasForm AtLemma bytes = (l : Lemma) × IsLemmaForm bytes l
 HasForm AtEnd bytes = IsLine bytes end_line
 HasForm Behind bytes = ⊥
 
+-- the faults of a line of this form: it lacks its LF, or isn't of the form
+abbrev pub HasOwnKind : Type 0 → DocKind → Bool → Type 0
+HasOwnKind Form Cut false = Unit {0}
+HasOwnKind Form BadForm ended = Form → ⊥
+HasOwnKind Form kind ended = ⊥
+
 -- The line at this place, which has its LF or not, has this fault.
 abbrev pub HasKind : Place → List ℕ → Bool → DocKind → Type 0
 HasKind (InBody place) bytes ended kind = HasDocKind place bytes ended kind
-HasKind Behind bytes ended Trailing = Unit {0}
-HasKind place bytes ended Trailing = ⊥
-HasKind place bytes false Cut = Unit {0}
-HasKind place bytes true Cut = ⊥
-HasKind place bytes ended BadForm = HasForm place bytes → ⊥
-HasKind place bytes ended other = ⊥
+HasKind Behind bytes ended kind = kind ≡ Trailing
+HasKind place bytes ended kind = HasOwnKind (HasForm place bytes) kind ended
 
 -- the first kind, in the order of a document's, that the line has
 pub record IsFirstKind (place : Place) (bytes : List ℕ) (ended : Bool) (kind : DocKind) : Type 0 where

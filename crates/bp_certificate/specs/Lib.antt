@@ -4,3 +4,5 @@ pub mod Ranges
 pub mod Words
 pub mod Places
 pub mod Faults
+pub mod Stages
+pub mod Scanning

@@ -9,7 +9,8 @@ use Rattle.bp_arrangement.specs.declared.fact.Fact.TheVariants.{Before, NotBefor
 use Rattle.bp_arrangement.specs.declared.fact.Hint.{Hint}
 use Rattle.bp_arrangement.specs.declared.fact.Hint.TheVariants.{Pair as OfPair, Lemma as OfLemma}
 use Rattle.bp_document.specs.Nodes.{IsPairOfNumbers}
-use Rattle.bp_document.specs.Ranges.{IsSmallPoint, IsFloorLine}
+use Rattle.bp_base.specs.Point.{IsSmallPoint}
+use Rattle.bp_document.specs.Ranges.{IsFloorLine}
 use Rattle.bp_certificate.specs.declared.certificate.Certificate.{Certificate}
 use Rattle.bp_certificate.specs.declared.certificate.Lemma.{Lemma}
 use Rattle.bp_certificate.specs.declared.certificate.Lemmas.{Lemmas}

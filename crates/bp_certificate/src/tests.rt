@@ -1,10 +1,15 @@
+ghost use Rattle.std.specs.Prelude.{IfOk};
+ghost use Rattle.bp_certificate.specs.Scanning.{IsUnbroken};
+
 use crate::{
-    Certificate, Lemma, Lemmas, read_corner, read_lemma, read_lemma_count, read_swap,
+    Certificate, CertificateScanner, Lemma, Lemmas, law_of_long_certificate_lines,
+    law_of_one_certificate, read_corner, read_lemma, read_lemma_count, read_swap,
     write_certificate,
 };
 use bp_arrangement::{Fact, Hint};
 use bp_base::{Axis, MemSink, NoMemory, Pair, Sequence};
-use bp_document::{ReadDoc, read_document};
+use bp_document::{DocFault, DocKind, ReadDoc, read_document};
+use bp_text::line;
 use std::alloc::Global;
 use std::test::Fail;
 
@@ -253,4 +258,69 @@ fn version_three_is_no_document(rt: HostRuntime) -> Result<(), Fail> {
         }
         _ => Err(Fail::from("no fault")),
     }
+}
+
+// Feeds the lines of a text, and counts its lemmas.
+fn feed_lines(scanner: &mut CertificateScanner, bytes: &[u8]) -> Result<u64, Fail>
+    requires { IsUnbroken scanner.old }
+    ensures { IfOk result (λ _. IsUnbroken scanner.new) }
+{
+    let mut lemmas: u64 = 0;
+    let mut at = 0;
+    while let Some(here) = line(bytes, at) {
+        let text = &bytes[here.from as usize..here.to as usize];
+        match scanner.feed(text, here.ended) {
+            Err(_) => return Err(Fail::from("a fault")),
+            Ok(None) => {}
+            Ok(Some(_)) => lemmas = lemmas.wrapping_add(1),
+        }
+        at = here.next;
+    }
+    Ok(lemmas)
+}
+
+// Whether all lines were fed, and the head was told.
+fn is_told(scanner: &CertificateScanner) -> bool
+    requires { IsUnbroken scanner.now }
+{
+    let Some(head) = scanner.head() else {
+        return false;
+    };
+    scanner.finish().is_ok() && head.side == 5 && head.plan.is_some()
+}
+
+// Whether no line was fed.
+fn is_fresh(scanner: &CertificateScanner) -> bool
+    requires { IsUnbroken scanner.now }
+{
+    let kind = DocKind::Cut;
+    scanner.head().is_none() && scanner.finish() == Err(DocFault { line: 1, kind })
+}
+
+// Feeds a certificate; whether its head was told, and how many lemmas it has.
+fn scan(scanner: &mut CertificateScanner, bytes: &[u8]) -> Result<(bool, u64), Fail>
+    requires { IsUnbroken scanner.old }
+{
+    let fresh = is_fresh(scanner);
+    let lemmas = feed_lines(scanner, bytes)?;
+    Ok((fresh && is_told(scanner), lemmas))
+}
+
+fn scanned(alloc: Global) -> Result<(bool, u64), Fail> {
+    law_of_long_certificate_lines();
+    law_of_one_certificate();
+    let bytes = text(alloc)?;
+    match CertificateScanner::open(alloc) {
+        Ok(scanner) => {
+            let mut scanner = scanner;
+            scan(&mut scanner, &bytes)
+        }
+        Err(NoMemory) => Err(Fail::from("no memory")),
+    }
+}
+
+#[test]
+fn line_by_line(rt: HostRuntime) -> Result<(), Fail> {
+    assert_eq!(rt; scanned(rt.alloc())?, (true, 13));
+    Ok(())
 }

@@ -41,7 +41,7 @@ after_other t S K [] other keeps = keeps
 after_other t S K (f ∷ []) other keeps = absurd (other refl)
 after_other t S K (f ∷ h ∷ more) other keeps = keeps
 
-each_last : (S : System) (earlier : List (List Fact)) (ls : List Lemma) (l : Lemma) → EachStands S earlier ls → Stands S (earlier ++ facts_of ls) l → EachStands S earlier (ls ++ l ∷ [])
+pub each_last : (S : System) (earlier : List (List Fact)) (ls : List Lemma) (l : Lemma) → EachStands S earlier ls → Stands S (earlier ++ facts_of ls) l → EachStands S earlier (ls ++ l ∷ [])
 each_last S earlier [] l each stands = (subst (λ (e : List (List Fact)). Stands S e l) (append-nil earlier) stands, tt)
 each_last S earlier (m ∷ ls) l each stands =
     (each.0, each_last S (earlier ++ m.facts ∷ []) ls l each.1 (subst (λ (e : List (List Fact)). Stands S e l) (sym (append_assoc earlier (m.facts ∷ []) (facts_of ls))) stands))

@@ -1,17 +1,14 @@
 -- The verdict by what is found of the lemmas.
-use Rattle.std.proofs.Common.{◌≡◌, ◌↔◌, ℕ, suc, ◌+◌, ◌-◌, ◌<◌, ◌≤◌, Bool, true, false, cond, leb, List, [], ◌∷◌, length, take, get_or, Option, None, Some, inl, inr, refl, sym, ap, ◌∙◌, subst, arith}
+use Rattle.std.proofs.Common.{◌≡◌, ℕ, suc, ◌-◌, ◌<◌, Bool, true, false, cond, leb, List, [], take, get_or, Option, None, Some, inl, inr, refl, sym, ◌∙◌, subst, arith}
 use Rattle.std.proofs.lemmas.Bool.{cases_lt, le-leb, leb-true, true≢false, false≢true}
 use Rattle.bp_base.specs.declared.path.Pair.{Pair}
-use Rattle.bp_base.specs.declared.point.Floor.{Floor}
 use Rattle.bp_base.specs.declared.point.Sheet.{Sheet}
 use Rattle.bp_base.specs.Tree.{TreeValue}
 use Rattle.bp_lemmas.specs.Standing.{Stands, EndsEmpty, facts_of}
-use Rattle.bp_lemmas.specs.Proves.{Proves}
 use Rattle.bp_certificate.specs.declared.certificate.Certificate.{Certificate}
 use Rattle.bp_certificate.specs.declared.certificate.Lemmas.{Lemmas}
 use Rattle.bp_verify.specs.declared.found.Found.{Found}
 use Rattle.bp_verify.specs.declared.found.Found.TheVariants.{NoLemmas, WrongLemma, Standing}
-use Rattle.bp_verify.specs.declared.verdict.Verdict.{Verdict}
 use Rattle.bp_verify.specs.declared.verdict.Verdict.TheVariants.{Yes, No}
 use Rattle.bp_verify.specs.declared.verdict.Reason.TheVariants.{BoundNotShown}
 use Rattle.bp_verify.specs.Certifies.{Certifies, IsBoundProved, ProvesFrom, lemmas_of, system_of}

@@ -2,3 +2,10 @@ mod Right
 mod Each
 mod Reasoning
 mod Deciding
+mod Judged
+mod HeldLines
+mod Intakes
+mod Heads
+mod Ending
+mod Sources
+mod OwnText

@@ -1,5 +1,5 @@
 -- Reasons: when each is the first, that there is only one, and none against a right certificate.
-use Rattle.std.proofs.Common.{◌≡◌, inl, inr, ℕ, suc, ◌-◌, ◌<◌, List, [], Option, None, Some, refl, sym, ap, ◌∙◌, subst, arith}
+use Rattle.std.proofs.Common.{◌≡◌, ◌↔◌, inl, inr, ℕ, suc, ◌-◌, ◌<◌, List, [], Option, None, Some, refl, sym, ap, ◌∙◌, subst, arith}
 use Rattle.std.proofs.lemmas.Bool.{cases_lt, cases_order}
 use Rattle.bp_base.specs.declared.path.Pair.{Pair}
 use Rattle.bp_base.specs.declared.point.Floor.{Floor}
@@ -20,9 +20,11 @@ use Rattle.bp_certificate.specs.declared.certificate.Lemmas.{Lemmas}
 use Rattle.bp_certificate.specs.declared.certificate.Plan.{Plan}
 use Rattle.bp_verify.specs.declared.verdict.Reason.{Reason}
 use Rattle.bp_verify.specs.declared.verdict.Reason.TheVariants.{TreeDiffers, Outside, TooNear, BadFloor, BadCorner, BadSwap, BadLemma, BoundNotShown}
+use Rattle.bp_verify.specs.declared.verdict.Verdict.{Verdict}
+use Rattle.bp_verify.specs.declared.verdict.Verdict.TheVariants.{Yes, No}
 use Rattle.bp_verify.specs.Certifies.{Certifies, IsBoundProved, ProvesFrom, lemmas_of, system_of}
 use Rattle.bp_verify.specs.Reasons.{HasCorner, HasBadSwap, HasBadLemma, FailsCorner, FailsSwap, FailsLemma, FailsBound, IsFirstBadLemma, Fails, rank, IsFirstReason}
-use Rattle.bp_verify.specs.Verdicts.{reason_of, HasPlan, HasHead, CanSwapAll, IsPlanReason, IsReasonBefore}
+use Rattle.bp_verify.specs.Verdicts.{reason_of, HasPlan, HasHead, CanSwapAll, IsPlanReason, IsReasonBefore, IsVerdictOf}
 use Rattle.bp_verify.proofs.Each.{each_at, in_front}
 
 -- what proves the bound fails no condition of the lemmas
@@ -296,3 +298,16 @@ module _ (T : TreeValue) (G : Sheet) (C : Certificate) (H : CertificateHead) (sh
 
         pub none_before : H.plan ≡ None → IsReasonBefore T C None
         none_before is = reason_is None (without_plan T C.lemmas (subst (HasPlan C.lemmas) is h.plan))
+
+-- the verdict and what it says
+module _ (T : TreeValue) (C : Certificate) where
+  pub yes_is : (v : Verdict) → IsVerdictOf T C v → ((v ≡ Yes) ↔ Certifies T C)
+  yes_is Yes right = (λ is. right, λ also. refl)
+  yes_is (No r) first = (λ is. absurd (cc), λ right. absurd (none_fails T C right r first.fails))
+
+  pub no_is : (v : Verdict) → IsVerdictOf T C v → (r : Reason) → ((v ≡ No r) ↔ IsFirstReason T C r)
+  no_is Yes right r = (λ is. absurd (cc), λ first. absurd (none_fails T C right r first.fails))
+  no_is (No s) first r = (
+    λ is. let same : s ≡ r = cc in subst (IsFirstReason T C) same first,
+    λ other. ap (λ (q : Reason). No q) (one_first T C s r first other),
+  )
