@@ -1,14 +1,13 @@
 // The lemma of a conflict: back over the reasons to one entry of the newest level.
 use crate::facts::{Conflict, Entry, Fact, Hint, Stop, Why, code_of, denial};
 use crate::knowledge::Knowledge;
+use crate::lemmas::NO_LEMMA;
 use crate::reasons::{add, add_facts, needed};
 use crate::search::Search;
 use std::alloc::Global;
 
 // How far back it is looked whether a fact of a lemma follows from the others.
 const DEPTH: u32 = 13;
-
-const NO_LEMMA: u32 = 4_294_967_295;
 
 const MOST_ENTRIES: usize = 16_777_216;
 
@@ -79,16 +78,10 @@ impl Analysis {
         &self.needs
     }
 
-    // The lemmas of the hints are needed too; each once, in rising order.
-    pub fn sort_needs(&mut self) -> Result<(), Stop> {
-        for hint in self.hints.iter() {
-            if let Hint::Lemma(lemma) = hint {
-                stop(self.needs.push(*lemma))?;
-            }
-        }
+    // Each once, in rising order.
+    pub fn sort_needs(&mut self) {
         self.needs.sort_unstable();
         self.needs.dedup();
-        Ok(())
     }
 
     fn clear(&mut self, entries: usize) -> Result<(), Stop> {

@@ -24,6 +24,23 @@ pub enum Hint {
     Lemma(u32),
 }
 
+/// A hint in one number.
+pub fn packed(hint: Hint) -> u32 {
+    match hint {
+        Hint::Group(group) => u32::from(group).saturating_mul(2),
+        Hint::Lemma(lemma) => lemma.saturating_mul(2).saturating_add(1),
+    }
+}
+
+/// The hint that a number stands for.
+pub fn unpacked(number: u32) -> Hint {
+    if number % 2 == 0 {
+        Hint::Group((number / 2 % 65536) as u16)
+    } else {
+        Hint::Lemma(number / 2)
+    }
+}
+
 #[derive(Clone, Copy, PartialEq, Eq)]
 pub enum Truth {
     Open,

@@ -18,9 +18,9 @@ pub struct Knowledge {
     high_at: [u32; MOST_COORDINATES],
     truth_at: [u32; MOST_ORDERS],
     // the orders that hold, in rows by their earlier and by their later coordinate
-    after: [u16; 4096],
+    after: [u16; 2048],
     after_count: [u8; MOST_COORDINATES],
-    before: [u16; 4096],
+    before: [u16; 2048],
     before_count: [u8; MOST_COORDINATES],
     pub trail: Vec<Entry>,
     // the length of the trail where each level begins
@@ -43,9 +43,9 @@ impl Knowledge {
             low_at: [NO_ENTRY; MOST_COORDINATES],
             high_at: [NO_ENTRY; MOST_COORDINATES],
             truth_at: [NO_ENTRY; MOST_ORDERS],
-            after: [0; 4096],
+            after: [0; 2048],
             after_count: [0; MOST_COORDINATES],
-            before: [0; 4096],
+            before: [0; 2048],
             before_count: [0; MOST_COORDINATES],
             trail: Vec::new(alloc),
             levels: Vec::new(alloc),

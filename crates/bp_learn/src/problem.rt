@@ -9,15 +9,19 @@ pub const MOST_ORDERS: usize = 2048;
 pub const MOST_GROUPS: usize = 512;
 
 // How many orders a coordinate may stand in as the earlier, or as the later.
-const ROW: usize = 64;
+const ROW: usize = 32;
+
+// How many others the arrangement may put a coordinate before, or behind: a corner, and one for each of the equal branches, one in the
+// other, that a leaf lies in, each at least twice as large as the one in it.
+const RISES: usize = 8;
 
 /// The first coordinate lies before the second by at least the weight, a code: twice the distance.
 #[derive(Clone, Copy)]
 pub struct Order {
-    pub first: u8,
-    pub second: u8,
     pub weight: u32,
     pub group: u16,
+    pub first: u8,
+    pub second: u8,
 }
 
 /// The arrangement puts the first coordinate at or before the second, by the hint of the group.
@@ -52,17 +56,23 @@ pub struct Problem {
     seconds: [u16; MOST_COORDINATES * ROW],
     second_count: [u8; MOST_COORDINATES],
     // the coordinates that the arrangement puts at or behind each one, and at or before it
-    rising: [Rise; MOST_COORDINATES * ROW],
+    rising: [Rise; MOST_COORDINATES * RISES],
     rising_count: [u8; MOST_COORDINATES],
-    falling: [Rise; MOST_COORDINATES * ROW],
+    falling: [Rise; MOST_COORDINATES * RISES],
     falling_count: [u8; MOST_COORDINATES],
 }
 
 // The place in a table of rows.
 pub fn place(row: u8, at: u8) -> usize
-    ensures { result < 4096 }
+    ensures { result < 2048 }
 {
     row as usize % MOST_COORDINATES * ROW + at as usize % ROW
+}
+
+fn rise_place(row: u8, at: u8) -> usize
+    ensures { result < 512 }
+{
+    row as usize % MOST_COORDINATES * RISES + at as usize % RISES
 }
 
 impl Problem {
@@ -71,10 +81,10 @@ impl Problem {
         Problem {
             coordinates,
             orders: [Order {
-                first: 0,
-                second: 0,
                 weight: 0,
                 group: 0,
+                first: 0,
+                second: 0,
             }; MOST_ORDERS],
             order_count: 0,
             groups: [[0; 4]; MOST_GROUPS],
@@ -85,9 +95,9 @@ impl Problem {
             first_count: [0; MOST_COORDINATES],
             seconds: [0; MOST_COORDINATES * ROW],
             second_count: [0; MOST_COORDINATES],
-            rising: [NO_RISE; MOST_COORDINATES * ROW],
+            rising: [NO_RISE; MOST_COORDINATES * RISES],
             rising_count: [0; MOST_COORDINATES],
-            falling: [NO_RISE; MOST_COORDINATES * ROW],
+            falling: [NO_RISE; MOST_COORDINATES * RISES],
             falling_count: [0; MOST_COORDINATES],
         }
     }
@@ -152,7 +162,7 @@ impl Problem {
     }
 
     pub fn rising_at(&self, u: u8, at: u8) -> Rise {
-        self.rising[place(u, at)]
+        self.rising[rise_place(u, at)]
     }
 
     pub fn falling_count(&self, u: u8) -> u8 {
@@ -160,17 +170,17 @@ impl Problem {
     }
 
     pub fn falling_at(&self, u: u8, at: u8) -> Rise {
-        self.falling[place(u, at)]
+        self.falling[rise_place(u, at)]
     }
 
     // Adds an order, and gives its number.
     fn add_order(&mut self, first: u8, second: u8, weight: u32, group: u16) -> u16 {
         let number = self.order_count;
         self.orders[number as usize % MOST_ORDERS] = Order {
-            first,
-            second,
             weight,
             group,
+            first,
+            second,
         };
         let (u, v) = (
             first as usize % MOST_COORDINATES,
@@ -203,11 +213,11 @@ impl Problem {
     pub fn arrange(&mut self, rise: Rise) {
         let u = rise.first as usize % MOST_COORDINATES;
         let at = self.rising_count[u];
-        self.rising[place(rise.first, at)] = rise;
+        self.rising[rise_place(rise.first, at)] = rise;
         self.rising_count[u] = at.wrapping_add(1);
         let v = rise.second as usize % MOST_COORDINATES;
         let at = self.falling_count[v];
-        self.falling[place(rise.second, at)] = rise;
+        self.falling[rise_place(rise.second, at)] = rise;
         self.falling_count[v] = at.wrapping_add(1);
     }
 }

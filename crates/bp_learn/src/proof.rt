@@ -1,7 +1,7 @@
 // The lemmas that the last one needs, renumbered, in terms of leaves.
 ghost use Rattle.std.specs.Prelude.{◌≡◌};
 
-use crate::facts::{Fact as Known, Hint as Reason, Stop};
+use crate::facts::{Fact as Known, Hint as Reason, Stop, unpacked};
 use crate::lemmas::Lemmas;
 use crate::problem::Problem;
 use crate::search::Search;
@@ -95,21 +95,8 @@ fn needed(alloc: Global, lemmas: &Lemmas) -> Result<Vec<bool>, Stop> {
     for at in 0..count {
         full(needed.push(at + 1 == count))?;
     }
-    for back in 0..count {
-        let number = count - 1 - back;
-        if number < 4_294_967_296 && needed.get(number) == Some(&true) {
-            mark_needs(lemmas, number as u32, &mut needed);
-        }
-    }
+    lemmas.mark_needs(&mut needed);
     Ok(needed)
-}
-
-fn mark_needs(lemmas: &Lemmas, number: u32, needed: &mut Vec<bool>) {
-    for need in lemmas.needs_of(number) {
-        if let Some(is_needed) = needed.get_mut(*need as usize) {
-            *is_needed = true;
-        }
-    }
 }
 
 impl Proof {
@@ -182,12 +169,12 @@ impl Proof {
             full(self.facts.push(fact_of(problem, *fact)))?;
         }
         for hint in search.lemmas.hints_of(number) {
-            let hint = match hint {
+            let hint = match unpacked(*hint) {
                 Reason::Group(group) => Hint::Pair {
-                    pair: pair_of(problem, *group),
+                    pair: pair_of(problem, group),
                 },
                 Reason::Lemma(lemma) => Hint::Lemma {
-                    number: match numbers.get(*lemma as usize) {
+                    number: match numbers.get(lemma as usize) {
                         Some(number) => *number,
                         None => 0,
                     },

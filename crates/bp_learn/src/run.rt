@@ -139,10 +139,10 @@ fn layout_of(figure: &Figure, coordinates: &[u32; MOST_COORDINATES]) -> Layout {
     layout
 }
 
-// A search and what its analyses write into.
+// A search and what its analyses write into. The search's tables are large: they stay in one place, as each move would touch new memory.
 #[derive(Drop)]
 struct Try {
-    search: Search,
+    search: Box<Search>,
     analysis: Analysis,
     limit: u32,
 }
@@ -160,11 +160,14 @@ impl Try {
             Err(NoMemory) => return Err(Stop::Full),
         };
         know_arrangement(&mut search.known, &run.figure, run.corner, &run.swaps)?;
-        Ok(Try {
-            search,
-            analysis: Analysis::new(alloc),
-            limit,
-        })
+        match Box::new(alloc, search) {
+            Ok(search) => Ok(Try {
+                search,
+                analysis: Analysis::new(alloc),
+                limit,
+            }),
+            Err(_) => Err(Stop::Full),
+        }
     }
 
     fn go_on(&mut self, most: u64) -> Result<Outcome, Stop> {
@@ -226,14 +229,14 @@ impl Run {
             left = left.saturating_sub(used);
             match outcome {
                 Outcome::Found => {
-                    if !self.take(&top.search) {
+                    if !self.take(&*top.search) {
                         return Err(Stop::Full);
                     }
                     self.lower(top)?;
                 }
                 Outcome::Refuted => {
                     self.bound = u64::from(top.limit);
-                    self.proof = Some(Proof::of(alloc, &top.search, self.bound)?);
+                    self.proof = Some(Proof::of(alloc, &*top.search, self.bound)?);
                 }
                 Outcome::Spent => {}
             }
@@ -270,14 +273,14 @@ impl Run {
         self.conflicts = self.conflicts.saturating_add(used);
         match outcome {
             Outcome::Found => {
-                if !self.take(&it.search) {
+                if !self.take(&*it.search) {
                     return Err(Stop::Full);
                 }
                 self.lower(top)?;
             }
             Outcome::Refuted => {
                 self.bound = u64::from(goal);
-                self.proof = Some(Proof::of(alloc, &it.search, self.bound)?);
+                self.proof = Some(Proof::of(alloc, &*it.search, self.bound)?);
             }
             Outcome::Spent => *half = Some(it),
         }

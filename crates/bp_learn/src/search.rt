@@ -5,7 +5,7 @@ use crate::activity::Activity;
 use crate::analysis::Analysis;
 use crate::facts::{Conflict, Fact, Stop, Truth, Why};
 use crate::knowledge::Knowledge;
-use crate::lemmas::Lemmas;
+use crate::lemmas::{Lemmas, renumbered};
 use crate::problem::{MOST_COORDINATES, Problem};
 use crate::watches::{Watch, Watches, row_of};
 use bp_base::NoMemory;
@@ -20,6 +20,9 @@ const KEEP: usize = 2000;
 const KEEP_MORE: usize = 100;
 
 pub const REDUCE: u64 = 1000;
+
+// So many lemmas are there at least before those are dropped that serve no more.
+const MANY: usize = 50_000;
 
 /// What a search has come to.
 #[derive(Clone, Copy, PartialEq, Eq, Debug)]
@@ -42,6 +45,8 @@ pub struct Search {
     // how many lemmas are watched, and how many may be
     kept: usize,
     keep: usize,
+    // from how many lemmas on those are dropped that serve no more
+    many: usize,
     // the lemma of one fact that tells what an entry of the root tells
     pub root_lemmas: Vec<u32>,
     pub conflicts: u64,
@@ -89,6 +94,7 @@ impl Search {
             watches,
             kept: 0,
             keep: KEEP,
+            many: MANY,
             root_lemmas: Vec::new(alloc),
             conflicts: 0,
             restarts: 0,
@@ -104,7 +110,7 @@ impl Search {
 
     /// Keeps a lemma, which is watched where it has two facts or more; gives its number.
     pub fn keep_lemma(&mut self, analysis: &mut Analysis, levels: u32) -> Result<u32, Stop> {
-        analysis.sort_needs()?;
+        analysis.sort_needs();
         let facts = analysis.lemma();
         let number = self.lemmas.add(
             facts,
@@ -491,6 +497,40 @@ impl Search {
                 self.kept = self.kept.saturating_sub(1);
             }
         }
+        self.drop_idle()
+    }
+
+    // Which lemmas may still serve: what is watched, tells the root or is a reason, and what that stands on.
+    fn needed(&self) -> Result<Vec<bool>, Stop> {
+        let mut needed = self.reasons()?;
+        for lemma in self.root_lemmas.iter() {
+            if let Some(is_needed) = needed.get_mut(*lemma as usize) {
+                *is_needed = true;
+            }
+        }
+        self.lemmas.mark_kept(&mut needed);
+        self.lemmas.mark_needs(&mut needed);
+        Ok(needed)
+    }
+
+    // Drops the lemmas that serve no more, where there are many. The others keep their order, so the search goes on as it would.
+    fn drop_idle(&mut self) -> Result<(), Stop> {
+        if self.lemmas.len() < self.many {
+            return Ok(());
+        }
+        let needed = self.needed()?;
+        let numbers = self.lemmas.drop_others(self.alloc, &needed)?;
+        self.watches.renumber(&numbers);
+        for entry in self.known.trail.iter_mut() {
+            if let Why::Lemma(lemma) = entry.why {
+                entry.why = Why::Lemma(renumbered(&numbers, lemma));
+            }
+        }
+        for lemma in self.root_lemmas.iter_mut() {
+            *lemma = renumbered(&numbers, *lemma);
+        }
+        let left = self.lemmas.len();
+        self.many = left.saturating_add(left / 4).max(MANY);
         Ok(())
     }
 }

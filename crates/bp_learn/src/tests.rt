@@ -109,3 +109,16 @@ fn two_leaves(rt: HostRuntime) -> Result<(), Fail> {
     assert!(rt; !proof.facts(0).contains(&first));
     Ok(())
 }
+
+// The tree of 8 leaves that the generator makes from the seed 1. Its first placement has side 29: what the search finds lowers its limit.
+const MADE: [u64; 11] = [0, 0, 0, 0, 3, 3, 3, 5, 5, 3, 5];
+
+const MADE_LENGTHS: [u64; 11] = [0, 9, 8, 2, 3, 7, 4, 5, 6, 1, 3];
+
+#[test]
+fn limit_lowered(rt: HostRuntime) -> Result<(), Fail> {
+    let alloc = rt.alloc();
+    let run = learned(alloc, &MADE, &MADE_LENGTHS, Sheet::Square, 24, 1000)?;
+    is_met(&rt, &run, 24, 28);
+    Ok(())
+}

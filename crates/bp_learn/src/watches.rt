@@ -2,6 +2,7 @@
 ghost use Rattle.std.specs.Prelude.{◌≡◌, ◌<◌, length};
 
 use crate::facts::{Fact, Stop, code_of};
+use crate::lemmas::{NO_LEMMA, renumbered};
 use crate::problem::{MOST_COORDINATES, MOST_ORDERS};
 use std::alloc::Global;
 use std::mem;
@@ -36,9 +37,31 @@ pub fn row_of(fact: Fact) -> usize
     }
 }
 
+fn renumber_row(list: &mut Vec<Watch>, numbers: &[u32]) {
+    let mut kept = 0usize;
+    for at in 0..list.len() {
+        let watch = match list.get(at) {
+            Some(watch) => *watch,
+            None => break,
+        };
+        let lemma = renumbered(numbers, watch.lemma);
+        if lemma == NO_LEMMA {
+            continue;
+        }
+        if let Some(slot) = list.get_mut(kept) {
+            *slot = Watch { lemma, ..watch };
+        }
+        kept = kept.saturating_add(1);
+    }
+    list.truncate(kept);
+}
+
 impl Watches {
     pub fn open(alloc: Global) -> Result<Watches, Stop> {
-        let mut rows = Vec::new(alloc);
+        let mut rows = match Vec::with_capacity(alloc, ROWS) {
+            Ok(rows) => rows,
+            Err(_) => return Err(Stop::Full),
+        };
         for _ in 0..ROWS {
             if rows.push(Vec::new(alloc)).is_err() {
                 return Err(Stop::Full);
@@ -56,6 +79,15 @@ impl Watches {
         match self.rows[row_of(fact)].push(watch) {
             Ok(()) => Ok(()),
             Err(_) => Err(Stop::Full),
+        }
+    }
+
+    /// Lemmas have got these numbers; those that were dropped are watched no more.
+    pub fn renumber(&mut self, numbers: &[u32]) {
+        for row in 0..ROWS {
+            let mut list = self.take(row);
+            renumber_row(&mut list, numbers);
+            self.put(row, list);
         }
     }
 

@@ -1,0 +1,3 @@
+mod Fitted
+mod Stood
+mod Proven
