@@ -18,12 +18,11 @@ use Rattle.bp_base.specs.declared.record.RecordKind.TheVariants.{Split, Closed}
 use Rattle.bp_base.specs.declared.record.Task.{Task}
 use Rattle.bp_base.specs.Bags.{choice_number, same_path, same_step}
 use Rattle.bp_base.specs.Tree.{TreeValue}
-use Rattle.bp_base.proofs.Bags.{same-length, sum_by-map, sum_by-flat_map, sum_by-mono}
+use Rattle.bp_base.proofs.Bags.{same-length, sum_by-map, sum_by-flat_map, sum_by-mono, path_itself}
 use Rattle.bp_metric.specs.Choices.{allowed, are_late_twins, is_pair_of}
 use Rattle.bp_metric.specs.Records.{IsBalanced, children_of, children_of_kind, paths_left, paths_of}
 use Rattle.bp_metric.specs.Refutation.{extended}
 use Rattle.bp_metric.specs.Stated.{CoversStated, IsStated}
-use Rattle.bp_design.proofs.SameNodes.{path_itself}
 
 -- The choices of a pair.
 

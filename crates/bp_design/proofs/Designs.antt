@@ -1,6 +1,6 @@
 -- A tree is designed: by its opening where that meets its floor, or else by a search.
 use Rattle.std.proofs.Common.{◌≡◌, inl, inr, ℕ, ◌≤◌, length, refl, sym, subst, arith}
-use Rattle.std.specs.Prelude.{None}
+use Rattle.std.specs.Prelude.{None, false}
 use Rattle.std.proofs.lemmas.Bool.{cases_lt, false≢true}
 use Rattle.bp_base.specs.declared.point.Floor.{Floor}
 use Rattle.bp_base.specs.declared.point.Placement.{Placement}
@@ -70,7 +70,7 @@ module _ (T : TreeValue) (G : Sheet) (p : Placement) (f : Floor) (o : IsOpening 
 
 -- what is known of documents that check
 module _ (M : MetricValue) (none : (D : Document) → D.sheet ≡ M.sheet → Checks M.tree D → NoneBelow M.tree D.sheet D.bound) (bound : (D : Document) → D.sheet ≡ M.sheet → Checks M.tree D → D.bound ≤ D.side) (wanted : (D : Document) → D.sheet ≡ M.sheet → Checks M.tree D → D.bound ≡ D.side → IsWanted M.tree D.sheet D.side) (short : (T : TreeValue) (D : Document) → IsDocument D → Checks T D → length (doc_text D) ≤ most_document_bytes) where
-  pub is_design : (B : ℕ) (D : Document) → IsSearched M.tree M.sheet B D → IsDesign M.tree M.sheet B D
+  pub is_design : (B : ℕ) (D : Document) → IsSearched M.tree M.sheet B D → IsDesign M.tree M.sheet B false D
   is_design B D s = record {
     proved = record {
       tree = s.tree;
@@ -88,7 +88,7 @@ module _ (M : MetricValue) (none : (D : Document) → D.sheet ≡ M.sheet → Ch
   }
 
   -- the opening, where it meets the floor
-  pub opening_design : (m : IsMetric M) (p : Placement) (f : Floor) (o : IsOpening M.tree M.sheet p.points) (side : p.side ≡ side_of M.sheet p.points) (valid : Valid M.tree M.sheet 1 p.side p.points) (fl : IsFloor M.tree M.sheet f) (holds : FloorHolds M.tree M.sheet f) (law : (g : Floor) → FloorHolds M.tree M.sheet g → NoneBelow M.tree M.sheet g.side) → opening.IsSmall p → floor.IsSmall f → p.side ≤ f.side → (B : ℕ) (T : TreeValue) → T ≡ M.tree → (G : Sheet) → G ≡ M.sheet → IsDesign M.tree M.sheet B (record { tree = T; side = p.side; bound = p.side; points = p.points; floor = f; proof = None; sheet = G })
+  pub opening_design : (m : IsMetric M) (p : Placement) (f : Floor) (o : IsOpening M.tree M.sheet p.points) (side : p.side ≡ side_of M.sheet p.points) (valid : Valid M.tree M.sheet 1 p.side p.points) (fl : IsFloor M.tree M.sheet f) (holds : FloorHolds M.tree M.sheet f) (law : (g : Floor) → FloorHolds M.tree M.sheet g → NoneBelow M.tree M.sheet g.side) → opening.IsSmall p → floor.IsSmall f → p.side ≤ f.side → (B : ℕ) (T : TreeValue) → T ≡ M.tree → (G : Sheet) → G ≡ M.sheet → IsDesign M.tree M.sheet B false (record { tree = T; side = p.side; bound = p.side; points = p.points; floor = f; proof = None; sheet = G })
   opening_design m p f o side valid fl holds law small few most B T same G on =
       is_design B (record { tree = T; side = p.side; bound = p.side; points = p.points; floor = f; proof = None; sheet = G })
       (subst (IsSearched M.tree M.sheet B) (λ i. record { tree = sym same i; side = p.side; bound = p.side; points = p.points; floor = f; proof = None; sheet = sym on i })

@@ -1,4 +1,5 @@
 mod Weights
+mod Replays
 mod SameNodes
 mod ShownCounts
 mod NodeParts
@@ -7,3 +8,4 @@ mod Covered
 mod Searches
 mod GivenUp
 mod Designs
+mod SteadyPoints

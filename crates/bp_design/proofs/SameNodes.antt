@@ -1,71 +1,13 @@
 -- A test of equality for nodes, and what it carries from a list of nodes to the same nodes in another order.
-use Rattle.std.proofs.Common.{◌≡◌, ℕ, Bool, true, false, true≢false, ◌&&◌, ◌==◌, List, [], ◌∷◌, All, sym, refl, arith}
+use Rattle.std.proofs.Common.{◌≡◌, ℕ, Bool, true, false, true≢false, ◌&&◌, ◌==◌, List, [], ◌∷◌, All, sym, refl}
 use Rattle.std.specs.List.{Any}
-use Rattle.std.proofs.lemmas.Bool.Decides.{nat_tests}
 use Rattle.bp_base.specs.declared.chain.Claim.{Claim}
 use Rattle.bp_base.specs.declared.chain.Claim.TheVariants.{Walk, Cycle}
-use Rattle.bp_base.specs.declared.path.Choice.{Choice}
-use Rattle.bp_base.specs.declared.path.Choice.TheVariants.{Left, Right, Below, Above}
-use Rattle.bp_base.specs.declared.path.Step.{Step}
 use Rattle.bp_base.specs.declared.point.Axis.{Axis}
 use Rattle.bp_base.specs.declared.point.Axis.TheVariants.{X, Y}
-use Rattle.bp_base.specs.Bags.{AreSame, choice_number, same_step, same_path}
-use Rattle.bp_base.proofs.Bags.{moved, all_moved}
+use Rattle.bp_base.specs.Bags.{AreSame, same_path}
+use Rattle.bp_base.proofs.Bags.{moved, all_moved, both_true, equal, itself, path_itself, path_sound}
 use Rattle.bp_metric.specs.Nodes.{Node, Part, SplitOf, ClosedBy, OpenBy}
-
-both_true : (a b : Bool) → (a && b) ≡ true → (a ≡ true) × (b ≡ true)
-both_true true b e = (refl, e)
-both_true false b e = absurd (true≢false (sym e))
-
-equal : (m n : ℕ) → (m == n) ≡ true → m ≡ n
-equal m n e = grind (arith, nat_tests)
-
-itself : (m : ℕ) → (m == m) ≡ true
-itself m = grind (arith, nat_tests)
-
--- Paths.
-
-choice_from : (c d : Choice) → choice_number c ≡ choice_number d → c ≡ d
-choice_from Left Left e = refl
-choice_from Right Right e = refl
-choice_from Below Below e = refl
-choice_from Above Above e = refl
-choice_from Left Right e = absurd (omega arith)
-choice_from Left Below e = absurd (omega arith)
-choice_from Left Above e = absurd (omega arith)
-choice_from Right Left e = absurd (omega arith)
-choice_from Right Below e = absurd (omega arith)
-choice_from Right Above e = absurd (omega arith)
-choice_from Below Left e = absurd (omega arith)
-choice_from Below Right e = absurd (omega arith)
-choice_from Below Above e = absurd (omega arith)
-choice_from Above Left e = absurd (omega arith)
-choice_from Above Right e = absurd (omega arith)
-choice_from Above Below e = absurd (omega arith)
-
-step_itself : (s : Step) → same_step s s ≡ true
-step_itself s = rw (itself s.pair.i, itself s.pair.j, itself (choice_number s.choice)) refl
-
-pub step_sound : (s t : Step) → same_step s t ≡ true → s ≡ t
-step_sound s t e =
-    let outer = both_true ((s.pair.i == t.pair.i) && (s.pair.j == t.pair.j)) (choice_number s.choice == choice_number t.choice) e in
-    let inner = both_true (s.pair.i == t.pair.i) (s.pair.j == t.pair.j) outer.0 in
-    let i = equal s.pair.i t.pair.i inner.0 in
-    let j = equal s.pair.j t.pair.j inner.1 in
-    let c = choice_from s.choice t.choice (equal (choice_number s.choice) (choice_number t.choice) outer.1) in
-    λ k. record { pair = record { i = i k; j = j k }; choice = c k }
-
-pub path_itself : (p : List Step) → same_path p p ≡ true
-path_itself [] = refl
-path_itself (s ∷ ss) = rw (step_itself s) (path_itself ss)
-
-pub path_sound : (p q : List Step) → same_path p q ≡ true → p ≡ q
-path_sound [] [] e = refl
-path_sound [] (t ∷ ts) e = absurd (true≢false (sym e))
-path_sound (s ∷ ss) [] e = absurd (true≢false (sym e))
-path_sound (s ∷ ss) (t ∷ ts) e = let b = both_true (same_step s t) (same_path ss ts) e in let h = step_sound s t b.0 in let r = path_sound ss ts b.1 in λ k. h k ∷ r k
-
--- Claims.
 
 abbrev same_axis : Axis → Axis → Bool
 same_axis X X = true

@@ -22,7 +22,7 @@ use Rattle.bp_base.specs.declared.record.Settled.{Settled}
 use Rattle.bp_base.specs.declared.record.Task.{Task}
 use Rattle.bp_base.specs.declared.refutation.Refutation.{Refutation}
 use Rattle.bp_base.specs.Limits.{most_budget, most_number, most_steps}
-use Rattle.bp_base.specs.Point.{origin, point_at}
+use Rattle.bp_base.specs.Point.{origin, point_at, IsSmallPoint}
 use Rattle.bp_base.specs.Tree.{TreeValue, IsTree, leaf_count}
 use Rattle.bp_base.proofs.Bags.{same-length}
 use Rattle.bp_metric.specs.Chains.{HasPairsOf}
@@ -41,7 +41,7 @@ use Rattle.bp_branch.proofs.Picked.{branch_short, picked_branch, stated_picked}
 use Rattle.bp_core.specs.Settled.{IsSettled, Solves}
 use Rattle.bp_join.specs.Joined.{HasPairOf, IsJoined, IsOpenNode, part_of}
 use Rattle.bp_document.specs.declared.document.Document.{Document}
-use Rattle.bp_document.specs.Ranges.{IsDocument, IsFloorLine, IsProof, IsSmallPart, IsSmallPoint, HasProof}
+use Rattle.bp_document.specs.Ranges.{IsDocument, IsFloorLine, IsProof, IsSmallPart, HasProof}
 use Rattle.bp_check.specs.Checks.{IsAtMost, IsBoundShown, ProofFits}
 use Rattle.bp_check.specs.Written.{CountsFrom, IsLeastSide, IsSolved, IsWritten, IsWrittenNode, IsWrittenPart, HasWrittenProof, SolvedPart, bound_of, examined_count, open_count}
 use Rattle.bp_design.specs.Searched.{IsAbove, IsFloorOf, IsOpeningOf, IsSearched}
@@ -271,7 +271,7 @@ place_small : (G : Sheet) (s : ℕ) (p : Point) → IsSheet G → s ≤ most_num
 place_small Square s p sheet small lies = (omega (arith, lies.0, small), omega (arith, lies.1, small))
 place_small (Strip width) s p sheet small lies = (omega (arith, lies.0, sheet), omega (arith, lies.1, small))
 
-points_small : (T : TreeValue) (G : Sheet) (s : ℕ) (P : List Point) → IsSheet G → s ≤ most_number → Valid T G 1 s P → All IsSmallPoint P
+pub points_small : (T : TreeValue) (G : Sheet) (s : ℕ) (P : List Point) → IsSheet G → s ≤ most_number → Valid T G 1 s P → All IsSmallPoint P
 points_small T G s P sheet small valid k d less =
     let lies = valid.inside (k + 1) (omega arith, omega (arith, less, valid.each)) in
     let here : k + 1 - 1 ≡ k = omega arith in
@@ -286,7 +286,7 @@ floor_line T G f is = record {
 }
 
 -- no floor of the tree has a greater side
-floor_most : (T : TreeValue) (G : Sheet) (f : Floor) → IsFloor T G f → (m : ℕ) → IsFloorSide T G m → m ≤ f.side
+pub floor_most : (T : TreeValue) (G : Sheet) (f : Floor) → IsFloor T G f → (m : ℕ) → IsFloorSide T G m → m ≤ f.side
 floor_most T G f is m side =
     let other = side.is_floor in
     omega (arith, side.is_side, ap (λ (g : Floor). g.side) other.is, is.greatest other.i other.j other.pair)

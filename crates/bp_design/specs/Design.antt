@@ -1,5 +1,5 @@
 -- A design: what it proves to whoever reads it, and how the search of this crate writes it.
-use Rattle.std.specs.Prelude.{◌≡◌, ℕ, ◌<◌, ◌≤◌, length, false, Some}
+use Rattle.std.specs.Prelude.{◌≡◌, ℕ, ◌<◌, ◌≤◌, length, Bool, Some}
 use Rattle.bp_base.specs.declared.point.Sheet.{Sheet}
 use Rattle.bp_base.specs.declared.refutation.Refutation.{Refutation}
 use Rattle.bp_base.specs.Limits.{most_document_bytes}
@@ -33,11 +33,11 @@ pub record IsGivenUp (B : ℕ) (D : Document) : Type 0 where
   pub left : 1 ≤ open_count (nodes_of D.tree D.sheet refutation)
   pub spent : examined_count (nodes_of D.tree D.sheet refutation) ≡ B
 
--- D is a design of T on this sheet with this budget
-pub record IsDesign (T : TreeValue) (G : Sheet) (B : ℕ) (D : Document) : Type 0 where
+-- D is a design of T on this sheet with this budget, by the steady answer or without it
+pub record IsDesign (T : TreeValue) (G : Sheet) (B : ℕ) (steady : Bool) (D : Document) : Type 0 where
   pub proved : IsProved T G D
   -- a budget that covers the stated tree is enough
   pub complete : CoversStated T G B → D.bound ≡ D.side
-  -- how the search writes it
-  pub written : IsWritten T B false D
+  -- how the search writes it; by the steady answer the points are the steady ones where the bound is the side
+  pub written : IsWritten T B steady D
   pub given_up : D.bound < D.side → IsGivenUp B D

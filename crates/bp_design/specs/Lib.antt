@@ -1,2 +1,4 @@
 pub mod Design
 pub mod Searched
+pub mod Replayed
+pub mod Steadied

@@ -2,10 +2,14 @@
 #![tactic(auto)]
 
 mod designing;
+mod replaying;
 mod searched;
+mod steadying;
 mod weighing;
 
 pub use designing::design;
+pub use replaying::{Counted, counted_replay, replayed};
+pub use steadying::{SteadyDesign, steadied};
 
 #[cfg(test)]
 mod tests;

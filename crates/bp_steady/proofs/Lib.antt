@@ -1,0 +1,11 @@
+mod Best
+mod Blows
+mod Children
+mod Coords
+mod Counted
+mod Looking
+mod Placed
+mod Pulling
+mod Questioned
+mod Summed
+mod Worked

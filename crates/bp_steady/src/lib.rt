@@ -1,0 +1,13 @@
+//! The steady answer: the least list of coordinates of a side, found by searches under bounds on single coordinates.
+#![tactic(auto)]
+
+mod answering;
+mod bounds;
+mod orders;
+mod pairs;
+mod rising;
+mod searching;
+#[cfg(test)]
+mod tests;
+
+pub use answering::{Steadied, steady};
