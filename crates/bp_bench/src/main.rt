@@ -1,8 +1,12 @@
-//! Times a warm path, a whole search with its records, joining these, and pushes and takes of a hand, on 16 leaves, and prints on
-//! standard error how many were done in how many milliseconds.
+//! Times a warm path, a whole search with its records, joining these, the same search by the machine, pushes and takes of a hand, and
+//! searches by hands on threads beside a plain stack, on 16 leaves, and prints on standard error how many were done in how many
+//! milliseconds.
 #![tactic(auto)]
 
+mod hands;
+
 ghost use Rattle.std.specs.Prelude.{◌≡◌, ◌≤◌, ◌<◌, ◌*◌, ◌-◌, ◌+◌, ◌/◌, ◌++◌, ℕ, IsTrue, IfOk, OnOk, length};
+ghost use Rattle.bp_base.specs.Limits.{most_hands};
 ghost use Rattle.bp_base.specs.Path.{IsPairOf};
 ghost use Rattle.bp_base.specs.Tree.{leaf_count};
 ghost use Rattle.bp_core.specs.Underway.{IsUnderway};
@@ -12,12 +16,14 @@ ghost use Rattle.bp_warm.specs.Warm.{pair_count};
 use bp_base::{Choice, NoMemory, Pair, Path, Refutation, Settled, Step, Task};
 use bp_floor::floor;
 use bp_join::join;
+use bp_machine::run_seeded;
 use bp_metric::Metric;
 use bp_opening::open;
 use bp_pool::{Hand, Take};
 use bp_samples::tree;
 use bp_stack::{begin, search};
 use bp_warm::Warm;
+use hands::timed_hands;
 use std::alloc::Global;
 use std::io;
 use std::process::ExitCode;
@@ -146,6 +152,35 @@ fn timed_search(rt: &impl Runtime, alloc: Global, metric: &Metric) -> io::Result
     Ok(())
 }
 
+// The same search by the machine of so many hands; none where the opening meets the floor.
+fn played(alloc: Global, metric: &Metric, hands: u64) -> Result<Option<Settled>, NoMemory>
+    requires { (1 ≤ hands) × (hands ≤ most_hands) }
+{
+    let opening = open(alloc, metric)?;
+    let floor = floor(alloc, metric)?;
+    if floor.side >= opening.side {
+        return Ok(None);
+    }
+    let settled = run_seeded(alloc, metric, opening, floor.side, hands, 200_000, 1)?;
+    Ok(Some(settled))
+}
+
+fn timed_machine(rt: &impl Runtime, alloc: Global, metric: &Metric, hands: u64) -> io::Result<()>
+    requires { (1 ≤ hands) × (hands ≤ most_hands) }
+{
+    let start = Instant::now(rt)?;
+    let Ok(Some(settled)) = played(alloc, metric, hands) else {
+        return Ok(());
+    };
+    let spent = start.elapsed(rt)?.as_millis();
+    let count = settled.examined;
+    let rate = u128::from(count).saturating_mul(1000) / spent.max(1);
+    eprintln!(rt;
+        "{count} branches of the machine with {hands} hands in {spent} ms, {rate} a second"
+    )?;
+    Ok(())
+}
+
 // A task whose path is empty.
 fn task(alloc: Global, _leaves: u64) -> Task
     ensures { IsTaskOf _leaves result }
@@ -203,6 +238,12 @@ fn main(rt: HostRuntime) -> io::Result<ExitCode> {
     };
     timed(&rt, &metric, &mut warm)?;
     timed_search(&rt, rt.alloc(), &metric)?;
+    timed_machine(&rt, rt.alloc(), &metric, 1)?;
+    timed_machine(&rt, rt.alloc(), &metric, 4)?;
     timed_pool(&rt, rt.alloc())?;
+    // The searches of these trees don't end before the budget is spent.
+    for seed in [1, 2, 3] {
+        timed_hands(&rt, rt.alloc(), seed)?;
+    }
     Ok(ExitCode::from(0))
 }

@@ -5,13 +5,13 @@ use Rattle.bp_tree.specs.declared.fault.TreeFault.{TreeFault}
 use Rattle.bp_document.specs.declared.document.Document.{Document}
 use Rattle.bp_engine.specs.declared.status.Status.{Status}
 use Rattle.bp_engine.specs.declared.status.Status.TheVariants.{Done, TreeRefused, ReadFault, WriteFault, No, NotBuilt, Usage}
-use Rattle.bp_engine.specs.Documents.{Handles, IsDrawn, Writes}
+use Rattle.bp_engine.specs.Documents.{Handles, Writes}
 use Rattle.bp_engine.specs.Outcomes.{AnswersDoc, IsFinal, WritesText}
 use Rattle.bp_engine.specs.Reading.{ReadsNoDoc}
 use Rattle.bp_engine.specs.Run.{IsSilent}
 use Rattle.bp_engine.specs.Texts.{MayWrite}
 
-writes : (A : Status → List ℕ → Type 0) (held now : Option (List ℕ)) (status result : Status) (text : List ℕ) → A status text → WritesText status text held now result → Writes A held now result
+pub writes : (A : Status → List ℕ → Type 0) (held now : Option (List ℕ)) (status result : Status) (text : List ℕ) → A status text → WritesText status text held now result → Writes A held now result
 writes A held now status result text a (inl w) = inl (text, subst (λ (s : Status). A s text) (sym w.0) a, w.1)
 writes A held now status result text a (inr w) = inr (inl (w.0, (status, text, a, w.1)))
 
@@ -31,11 +31,6 @@ no_read_fault status writes is = let h = subst MayWrite is writes in h
 
 pub no_tree_refused : (status : Status) → MayWrite status → (f : TreeFault) → status ≡ TreeRefused f → ⊥
 no_tree_refused status writes f is = let h = subst MayWrite is writes in h
-
-pub drawn_final : (D : Document) (status : Status) (text : List ℕ) → IsDrawn D status text → IsFinal status
-drawn_final D Done text d = tt
-drawn_final D (No reason) text d = tt
-drawn_final D status text d = absurd d
 
 pub not_fault : (status : Status) → IsFinal status → status ≡ WriteFault → ⊥
 not_fault status final is = let h = subst IsFinal is final in h

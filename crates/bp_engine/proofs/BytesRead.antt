@@ -1,5 +1,5 @@
 -- A tree or a document of the bytes that were read.
-use Rattle.std.proofs.Common.{min, inl, inr, ◌≡◌, ◌≤◌, ◌+◌, ℕ, [], List, length, take, drop, ap, subst, sym, ◌∙◌, arith}
+use Rattle.std.proofs.Common.{min, inl, inr, ◌⊎◌, ◌≡◌, ◌≤◌, ◌+◌, ℕ, [], List, length, take, drop, ap, subst, sym, ◌∙◌, arith}
 use Rattle.std.specs.declared.option.Option.{Option}
 use Rattle.std.specs.declared.option.Option.TheVariants.{None, Some}
 use Rattle.std.proofs.lemmas.List.{take_all, length-take}
@@ -12,12 +12,30 @@ use Rattle.bp_tree.specs.Text.{TreeOf}
 use Rattle.bp_document.specs.declared.document.Document.{Document}
 use Rattle.bp_document.specs.declared.fault.DocFault.{DocFault}
 use Rattle.bp_document.specs.Faults.{IsTextOf}
-use Rattle.bp_check.specs.Streams.{HasRead, Told, IsRefused as IsRefusedDoc, most_read as most_doc_read}
+use Rattle.bp_base.specs.Reading.{HasRead, IsReadTo, Told}
+use Rattle.bp_check.specs.Streams.{IsRefused as IsRefusedDoc, most_read as most_doc_read}
 use Rattle.bp_engine.specs.declared.status.Status.{Status}
-use Rattle.bp_engine.specs.declared.status.Status.TheVariants.{Done, TreeRefused, DocRefused, Usage, GaveUp, WriteFault, No, NotBuilt}
-use Rattle.bp_engine.specs.Reading.{IsRead, IsRefused, ReadsDoc, ReadsNoDoc, ReadsNoTree, ReadsTree, most_read}
+use Rattle.bp_engine.specs.declared.status.Status.TheVariants.{Done, TreeRefused, DocRefused, Usage, GaveUp, ReadFault, WriteFault, NoMemory, No, NoCertificate, NotBuilt}
+use Rattle.bp_certificate.specs.declared.certificate.Certificate.{Certificate}
+use Rattle.bp_certificate.specs.Faults.{IsTextOf as IsCertificateText}
+use Rattle.bp_engine.specs.Drawings.{IsRefusedAsOpened, ReadsNothing, Refuses}
+use Rattle.bp_engine.specs.Verifying.{ReadsCertificate}
+use Rattle.bp_engine.specs.Reading.{IsRefused, ReadsDoc, ReadsNoDoc, ReadsNoTree, ReadsTree, most_read}
 use Rattle.bp_engine.specs.Run.{IsSilent}
 use Rattle.bp_engine.specs.Texts.{MayWrite}
+
+-- the bytes are all that was left, or its first `most` bytes
+abbrev pub IsRead : ℕ → Option (List ℕ) → List ℕ → Type 0
+IsRead most None bytes = Unit {0}
+IsRead most (Some left) bytes = bytes ≡ take most left
+
+first_bytes : (most : ℕ) (l bytes : List ℕ) → bytes ≡ take (length bytes) l → (length bytes ≡ most) ⊎ ((length bytes ≤ most) × (length l ≡ length bytes)) → bytes ≡ take most l
+first_bytes most l bytes front (inl full) = front ∙ ap (λ (n : ℕ). take n l) full
+first_bytes most l bytes front (inr all) = front ∙ take_all (length bytes) l (omega (arith, all.1)) ∙ sym (take_all most l (omega (arith, all.0, all.1)))
+
+is_read : (most : ℕ) (left after : Option (List ℕ)) (bytes : List ℕ) → IsReadTo most left after bytes → IsRead most left bytes
+is_read most None after bytes read = tt
+is_read most (Some l) after bytes read = first_bytes most l bytes read.0.1 read.1
 
 -- where the first `most` bytes are fewer than that, they are all
 whole : (most : ℕ) (l bytes : List ℕ) → bytes ≡ take most l → length bytes + 1 ≤ most → bytes ≡ l
@@ -48,25 +66,36 @@ refused most (Some l) after bytes P is has p =
     let long : length bytes ≡ min most (length l) = ap length is ∙ length-take most l in
     (subst P is p, has.0 ∙ ap (λ (t : List ℕ). Some t) (same_rest most l (length bytes) long))
 
-pub reads_tree : (left after : Option (List ℕ)) (bytes : List ℕ) (T : TreeValue) → IsRead most_read left bytes → HasRead left after bytes → TreeOf bytes T → ReadsTree left after T
-reads_tree left after bytes T is has tree =
-    read_whole most_read left after bytes (λ (b : List ℕ). TreeOf b T) is has (omega (arith, tree.short)) tree
+pub reads_tree : (left after : Option (List ℕ)) (bytes : List ℕ) (T : TreeValue) → IsReadTo most_read left after bytes → TreeOf bytes T → ReadsTree left after T
+reads_tree left after bytes T read tree =
+    read_whole most_read left after bytes (λ (b : List ℕ). TreeOf b T) (is_read most_read left after bytes read) read.0 (omega (arith, tree.short)) tree
 
-pub refuses_tree : (left after : Option (List ℕ)) (bytes : List ℕ) (f : TreeFault) → IsRead most_read left bytes → HasRead left after bytes → IsRefused bytes f → ReadsNoTree left after (TreeRefused f)
-refuses_tree left after bytes f is has r = refused most_read left after bytes (λ (b : List ℕ). IsRefused b f) is has r
+pub refuses_tree : (left after : Option (List ℕ)) (bytes : List ℕ) (f : TreeFault) → IsReadTo most_read left after bytes → IsRefused bytes f → ReadsNoTree left after (TreeRefused f)
+refuses_tree left after bytes f read r = refused most_read left after bytes (λ (b : List ℕ). IsRefused b f) (is_read most_read left after bytes read) read.0 r
 
-pub reads_doc : (left after : Option (List ℕ)) (bytes : List ℕ) (D : Document) → IsRead most_doc_read left bytes → HasRead left after bytes → IsTextOf bytes D → ReadsDoc left after D
-reads_doc left after bytes D is has text =
-    read_whole most_doc_read left after bytes (λ (b : List ℕ). IsTextOf b D) is has (omega (arith, text.short)) text
+pub reads_doc : (left after : Option (List ℕ)) (bytes : List ℕ) (D : Document) → IsReadTo most_doc_read left after bytes → IsTextOf bytes D → ReadsDoc left after D
+reads_doc left after bytes D read text =
+    read_whole most_doc_read left after bytes (λ (b : List ℕ). IsTextOf b D) (is_read most_doc_read left after bytes read) read.0 (omega (arith, text.short)) text
 
-pub refuses_doc : (left after : Option (List ℕ)) (bytes : List ℕ) (fault : DocFault) → IsRead most_doc_read left bytes → HasRead left after bytes → IsRefusedDoc bytes fault → ReadsNoDoc left after (DocRefused fault)
-refuses_doc left after bytes fault is has r =
-    refused most_doc_read left after bytes (λ (b : List ℕ). IsRefusedDoc b fault) is has r
+pub refuses_doc : (left after : Option (List ℕ)) (bytes : List ℕ) (fault : DocFault) → IsReadTo most_doc_read left after bytes → IsRefusedDoc bytes fault → ReadsNoDoc left after (DocRefused fault)
+refuses_doc left after bytes fault read r =
+    refused most_doc_read left after bytes (λ (b : List ℕ). IsRefusedDoc b fault) (is_read most_doc_read left after bytes read) read.0 r
+
+-- a certificate's text, and what is neither that nor a document's
+pub reads_certificate : (left after : Option (List ℕ)) (bytes : List ℕ) (C : Certificate) → IsReadTo most_doc_read left after bytes → IsCertificateText bytes C → ReadsCertificate left after C
+reads_certificate left after bytes C read text =
+    read_whole most_doc_read left after bytes (λ (b : List ℕ). IsCertificateText b C) (is_read most_doc_read left after bytes read) read.0 (omega (arith, text.short)) text
+
+pub refuses_both : (left after : Option (List ℕ)) (bytes : List ℕ) (status : Status) → IsReadTo most_doc_read left after bytes → Refuses IsRefusedAsOpened bytes status → ReadsNothing left after status
+refuses_both left after bytes (DocRefused fault) read r = refused most_doc_read left after bytes (λ (b : List ℕ). IsRefusedAsOpened b fault) (is_read most_doc_read left after bytes read) read.0 r
+refuses_both left after bytes ReadFault read r = tt
+refuses_both left after bytes NoMemory read r = tt
+refuses_both left after bytes status read r = absurd r
 
 -- bytes that were read are all that was left, where these make a tree
-pub same_bytes : (left : Option (List ℕ)) (bytes b : List ℕ) (T : TreeValue) → IsRead most_read left bytes → left ≡ Some b → TreeOf b T → bytes ≡ b
-same_bytes left bytes b T is some tree =
-    let h : bytes ≡ take most_read b = subst (λ (l : Option (List ℕ)). IsRead most_read l bytes) some is in
+pub same_bytes : (left after : Option (List ℕ)) (bytes b : List ℕ) (T : TreeValue) → IsReadTo most_read left after bytes → left ≡ Some b → TreeOf b T → bytes ≡ b
+same_bytes left after bytes b T read some tree =
+    let h : bytes ≡ take most_read b = subst (λ (l : Option (List ℕ)). IsRead most_read l bytes) some (is_read most_read left after bytes read) in
     h ∙ take_all most_read b (omega (arith, tree.short))
 
 -- Where nothing came, the status is no silent one, and nothing is written.
@@ -81,11 +110,25 @@ no_doc_quiet left after Usage r silent = r
 no_doc_quiet left after NotBuilt r silent = r
 no_doc_quiet left after status r silent = silent
 
+pub nothing_quiet : (left after : Option (List ℕ)) (status : Status) → ReadsNothing left after status → IsSilent status → ⊥
+nothing_quiet left after Usage r silent = r
+nothing_quiet left after NotBuilt r silent = r
+nothing_quiet left after status r silent = silent
+
+pub nothing_written : (left after : Option (List ℕ)) (status : Status) → ReadsNothing left after status → MayWrite status → ⊥
+nothing_written left after Done r writes = r
+nothing_written left after (GaveUp side bound) r writes = r
+nothing_written left after WriteFault r writes = r
+nothing_written left after (No reason) r writes = r
+nothing_written left after (NoCertificate reason) r writes = r
+nothing_written left after status r writes = writes
+
 pub no_doc_written : (left after : Option (List ℕ)) (status : Status) → ReadsNoDoc left after status → MayWrite status → ⊥
 no_doc_written left after Done r writes = r
 no_doc_written left after (GaveUp side bound) r writes = r
 no_doc_written left after WriteFault r writes = r
 no_doc_written left after (No reason) r writes = r
+no_doc_written left after (NoCertificate reason) r writes = r
 no_doc_written left after status r writes = writes
 
 pub no_doc_tree : (left after : Option (List ℕ)) (status : Status) → ReadsNoDoc left after status → (f : TreeFault) → status ≡ TreeRefused f → ⊥

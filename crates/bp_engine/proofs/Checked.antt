@@ -16,7 +16,8 @@ use Rattle.bp_check.specs.declared.verdict.Verdict.{Verdict}
 use Rattle.bp_check.specs.declared.verdict.Verdict.TheVariants as verdict
 use Rattle.bp_check.specs.Checks.{Checks}
 use Rattle.bp_check.specs.Reasons.{IsFirstReason}
-use Rattle.bp_check.specs.Streams.{Streams, Told}
+use Rattle.bp_base.specs.Reading.{Told}
+use Rattle.bp_check.specs.Streams.{Streams}
 use Rattle.bp_engine.specs.declared.status.Status.{Status}
 use Rattle.bp_engine.specs.declared.status.Status.TheVariants.{Done, TreeRefused, DocRefused, ReadFault, WriteFault, NoMemory, No}
 use Rattle.bp_engine.specs.Checking.{ChecksBoth, IsChecked, yes_text}

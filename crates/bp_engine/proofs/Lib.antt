@@ -1,9 +1,10 @@
-mod SourceReads
 mod BytesRead
 mod Answered
 mod Drawn
 mod Completed
 mod Checked
+mod Verified
+mod Drawings
 mod Outcomes
 mod Asking
 mod Doings

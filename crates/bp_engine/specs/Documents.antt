@@ -1,8 +1,10 @@
--- What `rewrite` and `contours` read and write.
+-- What `rewrite`, `contours`, `pieces` and `picture` read and write.
 use Rattle.std.specs.Prelude.{◌≡◌, ◌⊎◌, ℕ, ◌+◌, List, [], ◌∷◌, ◌++◌, length, codes, decimal}
 use Rattle.std.specs.List.{flat_map}
 use Rattle.std.specs.declared.option.Option.{Option}
+use Rattle.bp_base.specs.declared.point.Piece.{Piece}
 use Rattle.bp_base.specs.declared.point.Point.{Point}
+use Rattle.bp_base.specs.declared.point.Report.{Report}
 use Rattle.bp_base.specs.declared.point.Sheet.{Sheet}
 use Rattle.bp_base.specs.declared.point.Sheet.TheVariants.{Square, Strip}
 use Rattle.bp_base.specs.Causes.{Appends, AppendsFront}
@@ -15,6 +17,10 @@ use Rattle.bp_check.specs.Checks.{Checks}
 use Rattle.bp_check.specs.Reasons.{IsFirstReason}
 use Rattle.bp_regions.specs.Cells.{Reach}
 use Rattle.bp_regions.specs.Contours.{AreContours}
+use Rattle.bp_pieces.specs.Pieces.{IsReport}
+use Rattle.bp_picture.specs.Pictures.{IsPicture}
+use Rattle.bp_engine.specs.declared.drawing.Drawing.{Drawing}
+use Rattle.bp_engine.specs.declared.drawing.Drawing.TheVariants.{Loops, Parts, Layout}
 use Rattle.bp_engine.specs.declared.status.Status.{Status}
 use Rattle.bp_engine.specs.declared.status.Status.TheVariants.{Done, WriteFault, NoMemory, No}
 use Rattle.bp_engine.specs.Reading.{ReadsDoc, ReadsNoDoc}
@@ -52,26 +58,38 @@ loop_line points = codes "loop" ++ flat_map point_words points ++ 10 ∷ []
 unfoldable pub edge_text : List ℕ → List (List Point) → List ℕ
 edge_text name loops = codes "edge " ++ name ++ 10 ∷ flat_map loop_line loops
 
--- the edges from e on, of which the lists have the loops
-abbrev pub edge_texts : TreeValue → ℕ → List (List (List Point)) → List ℕ
-edge_texts T e [] = []
-edge_texts T e (loops ∷ lists) = edge_text (name_of T e) loops ++ edge_texts T (e + 1) lists
+-- the line of a part: the word, its least cell by (y, x) and its number of cells
+unfoldable pub part_line : List ℕ → Piece → List ℕ
+part_line word p = word ++ point_words p.at ++ 32 ∷ decimal p.area ++ 10 ∷ []
 
--- the text of these loops, a list for each edge in the order of the edges
-unfoldable pub contour_text : TreeValue → List (List (List Point)) → List ℕ
-contour_text T lists = codes "contours 1\n" ++ edge_texts T 1 lists ++ codes "end\n"
+-- a line with the name of the lower node, then the edge's pieces and its holes
+unfoldable pub report_text : List ℕ → Report → List ℕ
+report_text name r = codes "edge " ++ name ++ 10 ∷ flat_map (part_line (codes "piece")) r.pieces ++ flat_map (part_line (codes "hole")) r.holes
 
--- the lists are the contours of Reach of the edges from e on, in order
-abbrev pub AreContoursFrom : TreeValue → ℕ → List Point → ℕ → List (List (List Point)) → Type 0
-AreContoursFrom T S P e [] = Unit {0}
-AreContoursFrom T S P e (loops ∷ lists) = AreContours (Reach T S P e) loops × AreContoursFrom T S P (e + 1) lists
+-- the texts of the edges from e on, by what is listed of each
+abbrev pub edge_texts : {X : Type 0} → (List ℕ → X → List ℕ) → TreeValue → ℕ → List X → List ℕ
+edge_texts Line T e [] = []
+edge_texts Line T e (x ∷ listed) = Line (name_of T e) x ++ edge_texts Line T (e + 1) listed
+
+-- what is listed is so of the edges from e on, in order
+abbrev pub AreOfEdges : {X : Type 0} → (ℕ → X → Type 0) → ℕ → List X → Type 0
+AreOfEdges Is e [] = Unit {0}
+AreOfEdges Is e (x ∷ listed) = Is e x × AreOfEdges Is (e + 1) listed
+
+-- The text begins with the head and ends with `end`, and between them has all edges of the tree in their order, each by what is so of it.
+pub record IsEdgesText {X : Type 0} (head : List ℕ) (Line : List ℕ → X → List ℕ) (T : TreeValue) (Is : ℕ → X → Type 0) (text : List ℕ) : Type 0 where
+  pub listed : List X
+  pub each : length listed + 1 ≡ node_count T
+  pub so : AreOfEdges Is 1 listed
+  pub text_is : text ≡ head ++ edge_texts Line T 1 listed ++ codes "end\n"
 
 -- the contour text of a placement at this side
-pub record IsContourText (T : TreeValue) (S : ℕ) (P : List Point) (text : List ℕ) : Type 0 where
-  pub lists : List (List (List Point))
-  pub each : length lists + 1 ≡ node_count T
-  pub contours : AreContoursFrom T S P 1 lists
-  pub text_is : text ≡ contour_text T lists
+abbrev pub IsContourText : TreeValue → ℕ → List Point → List ℕ → Type 0
+IsContourText T S P text = IsEdgesText (codes "contours 1\n") edge_text T (λ e loops. AreContours (Reach T S P e) loops) text
+
+-- the text of its pieces and holes
+abbrev pub IsPieceText : TreeValue → ℕ → List Point → List ℕ → Type 0
+IsPieceText T S P text = IsEdgesText (codes "pieces 1\n") report_text T (λ e r. IsReport (Reach T S P e) S r) text
 
 abbrev pub reason_text : Reason → List ℕ
 reason_text TreeDiffers = codes "TreeDiffers"
@@ -86,16 +104,19 @@ reason_text StripSheet = codes "StripSheet"
 unfoldable pub no_text : Reason → List ℕ
 no_text reason = codes "no " ++ reason_text reason ++ 10 ∷ []
 
--- Why no contours are drawn: the sheet is a strip; or, on a square, the first reason against the document's own tree.
+-- Why nothing is drawn: the sheet is a strip; or, on a square, the first reason against the document's own tree.
 abbrev pub IsReasonOn : Sheet → Document → Reason → Type 0
 IsReasonOn Square D reason = IsFirstReason D.tree D reason
 IsReasonOn (Strip width) D reason = reason ≡ StripSheet
 
--- `contours` answers a square's document that checks against its own tree by its contour text, and each other by the reason
-abbrev pub IsDrawn : Document → Status → List ℕ → Type 0
-IsDrawn D Done text = (D.sheet ≡ Square) × Checks D.tree D × IsContourText D.tree D.side D.points text
-IsDrawn D (No reason) text = IsReasonOn D.sheet D reason × (text ≡ no_text reason)
-IsDrawn D status text = ⊥
+-- what is drawn of a tree, a side with a bound, and points: contours, pieces and holes, or a picture
+abbrev pub IsDrawing : Drawing → TreeValue → ℕ → ℕ → List Point → List ℕ → Type 0
+IsDrawing Loops T S bound P text = IsContourText T S P text
+IsDrawing Parts T S bound P text = IsPieceText T S P text
+IsDrawing Layout T S bound P text = IsPicture (record { tree = T; side = S; points = P }) bound text
 
-abbrev pub Draws : Option (List ℕ) → Option (List ℕ) → Option (List ℕ) → Option (List ℕ) → Status → Type 0
-Draws left after held now status = Handles IsDrawn left after held now status
+-- `contours`, `pieces` and `picture` answer a square's document that checks against its own tree by its drawing, and each other by the reason
+abbrev pub IsDrawn : Drawing → Document → Status → List ℕ → Type 0
+IsDrawn drawing D Done text = (D.sheet ≡ Square) × Checks D.tree D × IsDrawing drawing D.tree D.side D.bound D.points text
+IsDrawn drawing D (No reason) text = IsReasonOn D.sheet D reason × (text ≡ no_text reason)
+IsDrawn drawing D status text = ⊥

@@ -1,7 +1,7 @@
 -- What is read of a tree and of a document, and why none comes of a source.
 use Rattle.std.specs.Prelude.{◌≡◌, ℕ, ◌+◌, List, [], take, drop}
 use Rattle.std.specs.declared.option.Option.{Option}
-use Rattle.std.specs.declared.option.Option.TheVariants.{None, Some}
+use Rattle.std.specs.declared.option.Option.TheVariants.{Some}
 use Rattle.bp_base.specs.Limits.{most_tree_bytes}
 use Rattle.bp_base.specs.Tree.{TreeValue}
 use Rattle.bp_tree.specs.declared.fault.TreeFault.{TreeFault}
@@ -9,7 +9,8 @@ use Rattle.bp_tree.specs.Faults.{IsTreeFault}
 use Rattle.bp_tree.specs.Text.{TreeOf}
 use Rattle.bp_document.specs.declared.document.Document.{Document}
 use Rattle.bp_document.specs.Faults.{IsTextOf}
-use Rattle.bp_check.specs.Streams.{IsRefused as IsRefusedDoc, Told, most_read as most_doc_read}
+use Rattle.bp_base.specs.Reading.{Told}
+use Rattle.bp_check.specs.Streams.{IsRefused as IsRefusedDoc, most_read as most_doc_read}
 use Rattle.bp_engine.specs.declared.status.Status.{Status}
 use Rattle.bp_engine.specs.declared.status.Status.TheVariants.{TreeRefused, DocRefused, ReadFault, NoMemory}
 
@@ -44,8 +45,3 @@ ReadsNoDoc left after (DocRefused fault) =
 ReadsNoDoc left after ReadFault = Unit {0}
 ReadsNoDoc left after NoMemory = Unit {0}
 ReadsNoDoc left after status = ⊥
-
--- The bytes are all that was left, or its first `most` bytes.
-abbrev pub IsRead : ℕ → Option (List ℕ) → List ℕ → Type 0
-IsRead most None bytes = Unit {0}
-IsRead most (Some left) bytes = bytes ≡ take most left

@@ -14,16 +14,28 @@ use Rattle.bp_document.specs.declared.document.Document.{Document}
 use Rattle.bp_document.specs.declared.fault.DocFault.{DocFault}
 use Rattle.bp_document.specs.Faults.{IsTextOf}
 use Rattle.bp_check.specs.declared.verdict.Reason.{Reason}
+use Rattle.bp_check.specs.Written.{IsWanted}
+use Rattle.bp_steady.specs.Sums.{IsMWithin}
+use Rattle.bp_certificate.specs.declared.certificate.Certificate.{Certificate}
+use Rattle.bp_certificate.specs.Faults.{IsTextOf as IsCertificateText}
+use Rattle.bp_verify.specs.declared.verdict.Reason.{Reason as Flaw}
 use Rattle.bp_words.specs.declared.words.Words.{Words}
-use Rattle.bp_words.specs.declared.words.Words.TheVariants.{Design, Check, Contours, Rewrite}
+use Rattle.bp_words.specs.declared.words.Words.TheVariants.{Design, Check, Contours, Help, Made, Picture, Pieces, Rewrite, Solve, Verify, Version, Trial}
 use Rattle.bp_engine.specs.declared.design.Asked.{Asked}
 use Rattle.bp_engine.specs.declared.status.Status.{Status}
-use Rattle.bp_engine.specs.declared.status.Status.TheVariants.{Done, TreeRefused, DocRefused, Usage, GaveUp, ReadFault, WriteFault, NoMemory, No, NotBuilt}
+use Rattle.bp_engine.specs.declared.status.Status.TheVariants.{Done, TreeRefused, DocRefused, Usage, GaveUp, ReadFault, WriteFault, NoMemory, No, NoCertificate, NotBuilt, Unsteady}
 use Rattle.bp_engine.specs.Checking.{ChecksBoth}
 use Rattle.bp_engine.specs.Designs.{Designs, Sinks}
-use Rattle.bp_engine.specs.Documents.{Draws, Rewrites}
+use Rattle.bp_engine.specs.declared.drawing.Drawing.TheVariants.{Loops, Parts, Layout}
+use Rattle.bp_engine.specs.Documents.{Rewrites}
+use Rattle.bp_engine.specs.Drawings.{Draws}
+use Rattle.bp_engine.specs.Making.{Makes}
+use Rattle.bp_engine.specs.Pages.{Shows, help_page, version_page}
 use Rattle.bp_engine.specs.Reading.{ReadsTree}
+use Rattle.bp_engine.specs.Solves.{Solves}
 use Rattle.bp_engine.specs.Texts.{MayWrite}
+use Rattle.bp_engine.specs.Trials.{Tries}
+use Rattle.bp_engine.specs.Verifying.{VerifiesBoth}
 
 -- What is seen of the sources and sinks of a run: what is left of `tree` and `doc` and what `out` and `fold` hold, where that is told, and each
 -- one's count of faults.
@@ -52,34 +64,60 @@ abbrev pub draws_of : Option ℕ → Bool
 draws_of None = false
 draws_of (Some place) = true
 
-abbrev pub asked_of : ℕ → Option ℕ → Option ℕ → Asked
-asked_of budget fold strip = record { sheet = sheet_of strip; budget = budget; draws = draws_of fold }
+abbrev pub asked_of : ℕ → ℕ → Option ℕ → Option ℕ → Option ℕ → Option ℕ → Asked
+asked_of workers budget replay fold strip steady = record {
+  sheet = sheet_of strip;
+  budget = budget;
+  hands = workers;
+  replay = replay;
+  draws = draws_of fold;
+  steady = steady;
+}
+
+-- `solve` has no hands, no replays and no steady answer
+abbrev pub solve_asked_of : ℕ → Option ℕ → Option ℕ → Asked
+solve_asked_of budget fold strip = asked_of 1 budget None fold strip None
 
 -- What the command has read and written, by its status.
 abbrev pub Answers : Words → View → View → Status → Type 0
-Answers (Design workers budget None fold strip None) before after status =
-    Designs (asked_of budget fold strip) before.tree after.tree (sinks_of before) (sinks_of after) status
+Answers (Design workers budget replay fold strip steady) before after status =
+    Designs (asked_of workers budget replay fold strip steady) before.tree after.tree (sinks_of before) (sinks_of after) status
 Answers (Check place) before after status = ChecksBoth before.tree after.tree before.doc after.doc before.out after.out status
-Answers Contours before after status = Draws before.doc after.doc before.out after.out status
+Answers Contours before after status = Draws Loops before.doc after.doc before.out after.out status
+Answers Pieces before after status = Draws Parts before.doc after.doc before.out after.out status
+Answers Picture before after status = Draws Layout before.doc after.doc before.out after.out status
+Answers Help before after status = Shows help_page before.out after.out status
+Answers Version before after status = Shows version_page before.out after.out status
+Answers (Made leaves seed) before after status = Makes leaves seed before.out after.out status
+Answers (Trial leaves seed) before after status = Tries leaves seed before.out after.out status
 Answers Rewrite before after status = Rewrites before.doc after.doc before.out after.out status
+Answers (Solve budget strip fold None) before after status =
+    Solves (solve_asked_of budget fold strip) before.tree after.tree (sinks_of before) (sinks_of after) status
+Answers (Verify place) before after status = VerifiesBoth before.tree after.tree before.doc after.doc before.out after.out status
 Answers w before after status = status ≡ NotBuilt
 
 -- the command reads a tree from the source `tree`
 abbrev pub UsesTree : Words → Type 0
-UsesTree (Design workers budget None fold strip None) = Unit {0}
+UsesTree (Design workers budget replay fold strip steady) = Unit {0}
 UsesTree (Check place) = Unit {0}
+UsesTree (Solve budget strip fold None) = Unit {0}
+UsesTree (Verify place) = Unit {0}
 UsesTree w = ⊥
 
--- the command reads a document from the source `doc`
+-- the command reads a document or a certificate from the source `doc`
 abbrev pub UsesDoc : Words → Type 0
 UsesDoc (Check place) = Unit {0}
 UsesDoc Contours = Unit {0}
+UsesDoc Pieces = Unit {0}
+UsesDoc Picture = Unit {0}
 UsesDoc Rewrite = Unit {0}
+UsesDoc (Verify place) = Unit {0}
 UsesDoc w = ⊥
 
 -- the command writes a drawing on the sink `fold`
 abbrev pub UsesFold : Words → Type 0
-UsesFold (Design workers budget None (Some place) strip None) = Unit {0}
+UsesFold (Design workers budget replay (Some place) strip steady) = Unit {0}
+UsesFold (Solve budget strip (Some place) None) = Unit {0}
 UsesFold w = ⊥
 
 -- Which statuses come.
@@ -92,24 +130,58 @@ IsDone status = (status ≡ Done) ⊎ (status ≡ NoMemory)
 abbrev pub IsDoneOrNo : Status → Type 0
 IsDoneOrNo status = IsDone status ⊎ ((reason : Reason) × (status ≡ No reason))
 
--- one of these, or the tree or the document is refused
+-- the tree or what is read behind it is refused
+abbrev pub IsRefusal : Status → Type 0
+IsRefusal status = ((f : TreeFault) × (status ≡ TreeRefused f)) ⊎ ((f : DocFault) × (status ≡ DocRefused f))
+
+-- Done, No, want of memory, or the tree or the document is refused
 abbrev pub IsJudged : Status → Type 0
-IsJudged status = IsDoneOrNo status ⊎ (((f : TreeFault) × (status ≡ TreeRefused f)) ⊎ ((f : DocFault) × (status ≡ DocRefused f)))
+IsJudged status = IsDoneOrNo status ⊎ IsRefusal status
+
+-- Done, want of memory, or NoCertificate
+abbrev pub IsDoneOrUncertified : Status → Type 0
+IsDoneOrUncertified status = IsDone status ⊎ ((reason : Flaw) × (status ≡ NoCertificate reason))
 
 -- done, or the search was given up
 abbrev pub IsDoneOrGivenUp : Status → Type 0
 IsDoneOrGivenUp status = IsDone status ⊎ ((side bound : ℕ) × (status ≡ GaveUp side bound))
 
+-- done, or given up, or the budget of the steady answer, where it is asked for, was less than M
+abbrev pub IsDesignEnd : Option ℕ → Status → Type 0
+IsDesignEnd None status = IsDoneOrGivenUp status
+IsDesignEnd (Some quota) status = IsDoneOrGivenUp status ⊎ (status ≡ Unsteady quota)
+
+-- M of the least side is at most the budget of the steady answer, where it is asked for
+abbrev pub IsEnough : TreeValue → Sheet → Option ℕ → Type 0
+IsEnough T G None = Unit {0}
+IsEnough T G (Some quota) = (S : ℕ) → IsWanted T G S → IsMWithin T G S quota
+
+-- A document is drawn or answered by No; a certificate is too, or is answered by NoCertificate; or memory lacked.
+abbrev pub IsDrawnToEnd : Option (List ℕ) → Status → Type 0
+IsDrawnToEnd doc status =
+    ((b : List ℕ) (D : Document) → doc ≡ Some b → IsTextOf b D → IsDoneOrNo status)
+    × ((b : List ℕ) (C : Certificate) → doc ≡ Some b → IsCertificateText b C → IsDoneOrNo status ⊎ IsDoneOrUncertified status)
+
 -- Which statuses come where the command's inputs are in their grammars and no count rose. A budget that covers the stated tree is never given
--- up.
+-- up, and one of the steady answer that is at least M is enough then.
 abbrev pub Completes : Words → View → Status → Type 0
-Completes (Design workers budget None fold strip None) before status =
+Completes (Design workers budget replay fold strip steady) before status =
     (b : List ℕ) (T : TreeValue) → before.tree ≡ Some b → TreeOf b T
-    → IsDoneOrGivenUp status × (CoversStated T (sheet_of strip) budget → IsDone status)
+    → IsDesignEnd steady status × (CoversStated T (sheet_of strip) budget → IsEnough T (sheet_of strip) steady → IsDone status)
 Completes (Check place) before status =
     IsJudged status × ((b c : List ℕ) (T : TreeValue) (D : Document) → before.tree ≡ Some b → before.doc ≡ Some c → TreeOf b T → IsTextOf c D → IsDoneOrNo status)
-Completes Contours before status = (b : List ℕ) (D : Document) → before.doc ≡ Some b → IsTextOf b D → IsDoneOrNo status
+Completes Contours before status = IsDrawnToEnd before.doc status
+Completes Pieces before status = IsDrawnToEnd before.doc status
+Completes Picture before status = IsDrawnToEnd before.doc status
+Completes Help before status = status ≡ Done
+Completes Version before status = status ≡ Done
 Completes Rewrite before status = (b : List ℕ) (D : Document) → before.doc ≡ Some b → IsTextOf b D → IsDone status
+Completes (Made leaves seed) before status = IsDone status
+Completes (Trial leaves seed) before status = IsDone status
+Completes (Solve budget strip fold None) before status = (b : List ℕ) (T : TreeValue) → before.tree ≡ Some b → TreeOf b T → IsDoneOrGivenUp status
+Completes (Verify place) before status =
+    (IsDoneOrUncertified status ⊎ IsRefusal status)
+    × ((b c : List ℕ) (T : TreeValue) (C : Certificate) → before.tree ≡ Some b → before.doc ≡ Some c → TreeOf b T → IsCertificateText c C → IsDoneOrUncertified status)
 Completes w before status = status ≡ NotBuilt
 
 -- no count of faults rose

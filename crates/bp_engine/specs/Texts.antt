@@ -5,7 +5,7 @@ use Rattle.bp_tree.specs.declared.fault.TreeKind.TheVariants.{TooLong, BadJson, 
 use Rattle.bp_document.specs.declared.fault.DocKind.{DocKind}
 use Rattle.bp_document.specs.declared.fault.DocKind.TheVariants as doc
 use Rattle.bp_engine.specs.declared.status.Status.{Status}
-use Rattle.bp_engine.specs.declared.status.Status.TheVariants.{Done, TreeRefused, DocRefused, Usage, GaveUp, ReadFault, WriteFault, NoMemory, No, NotBuilt}
+use Rattle.bp_engine.specs.declared.status.Status.TheVariants.{Done, TreeRefused, DocRefused, Usage, GaveUp, ReadFault, WriteFault, NoMemory, No, NoCertificate, NotBuilt, Unsteady}
 
 abbrev pub kind_text : TreeKind → List ℕ
 kind_text TooLong = codes "TooLong"
@@ -31,7 +31,7 @@ doc_kind_text doc.BadTree = codes "BadTree"
 doc_kind_text doc.BadPoint = codes "BadPoint"
 doc_kind_text doc.BadDepth = codes "BadDepth"
 
--- Of No nothing is told here: its reason is the command's text.
+-- Of No and NoCertificate nothing is told here: the reason is the command's text.
 unfoldable pub text_of : Status → List ℕ
 text_of Done = []
 text_of (TreeRefused fault) = codes "tree: line " ++ decimal fault.line ++ codes ": " ++ kind_text fault.kind ++ 10 ∷ []
@@ -42,7 +42,9 @@ text_of ReadFault = codes "read fault\n"
 text_of WriteFault = codes "write fault\n"
 text_of NoMemory = codes "no memory\n"
 text_of (No reason) = []
+text_of (NoCertificate reason) = []
 text_of NotBuilt = codes "not built\n"
+text_of (Unsteady budget) = codes "unsteady: budget " ++ decimal budget ++ 10 ∷ []
 
 -- the number that the program ends with
 abbrev pub number_of : Status → ℕ
@@ -55,7 +57,9 @@ number_of ReadFault = 4
 number_of WriteFault = 5
 number_of NoMemory = 6
 number_of (No reason) = 7
+number_of (NoCertificate reason) = 7
 number_of NotBuilt = 8
+number_of (Unsteady budget) = 9
 
 -- the statuses that come behind something written
 abbrev pub MayWrite : Status → Type 0
@@ -63,4 +67,5 @@ MayWrite Done = Unit {0}
 MayWrite (GaveUp side bound) = Unit {0}
 MayWrite WriteFault = Unit {0}
 MayWrite (No reason) = Unit {0}
+MayWrite (NoCertificate reason) = Unit {0}
 MayWrite status = ⊥

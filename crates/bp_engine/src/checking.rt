@@ -99,7 +99,7 @@ fn answer_of(alloc: Global, streamed: Streamed) -> Result<Answer, NoMemory>
 }
 
 #[tactic(auto, unfolding(crate::specs::Checking::yes_text))]
-fn yes_text(alloc: Global, side: u64, bound: u64) -> Result<Vec<u8>, NoMemory>
+pub fn yes_text(alloc: Global, side: u64, bound: u64) -> Result<Vec<u8>, NoMemory>
     ensures { IfOk result (λ v. v.items ≡ yes_text side bound) }
 {
     let mut text = Vec::new(alloc);

@@ -8,11 +8,16 @@ ghost use Rattle.bp_engine.specs.Texts.{text_of};
 use crate::Status;
 use crate::checking::check_both;
 use crate::design::{Asked, design};
-use crate::drawing::draw;
+use crate::drawing::{Drawing, draw};
+use crate::making::make;
+use crate::pages::{HELP, VERSION, show};
 use crate::rewriting::rewrite;
+use crate::solve::solve;
 use crate::tell::tell;
+use crate::trying::try_made;
+use crate::verifying::verify_both;
 use bp_base::{Gate, Sheet, Sink, Source};
-use bp_words::{Words, one_meaning, words_of};
+use bp_words::{MirrorKind, Words, one_meaning, words_of};
 use std::alloc::Global;
 use std::thread::Threads;
 
@@ -41,21 +46,21 @@ pub fn run<R: Threads + Sync, T: Source, D: Source, K: Sink, F: Sink, E: Sink, G
     // The status is told on `err`.
     ensures told { Tells (E.held err.old) (E.held err.new) (E.faults err.old) (E.faults err.new) (text_of result) }
 {
-    let _ = rt;
-    let _ = gate;
-    let status = answer(alloc, words, tree, doc, out, fold);
+    let status = answer(rt, alloc, words, tree, doc, out, fold, gate);
     tell(err, status);
     status
 }
 
 // Does what the words say.
-fn answer<T: Source, D: Source, K: Sink, F: Sink>(
+fn answer<R: Threads + Sync, T: Source, D: Source, K: Sink, F: Sink, G: Gate + Sync>(
+    rt: &R,
     alloc: Global,
     words: &[String],
     tree: &mut T,
     doc: &mut D,
     out: &mut K,
     fold: &mut F,
+    gate: &G,
 ) -> Status
     ensures usage { (result ≡ Status.Usage) ↔ ((w : Words) → IsWords (map string_bytes words.now) w → ⊥) }
     ensures silent { IsSilent result → (tree.new ≡ tree.old) × (doc.new ≡ doc.old) × (out.new ≡ out.old) × (fold.new ≡ fold.old) }
@@ -65,18 +70,20 @@ fn answer<T: Source, D: Source, K: Sink, F: Sink>(
     one_meaning(words);
     match words_of(words) {
         None => Status::Usage,
-        Some(asked) => do_asked(alloc, asked, tree, doc, out, fold),
+        Some(asked) => do_asked(rt, alloc, asked, tree, doc, out, fold, gate),
     }
 }
 
 // Does what is asked.
-fn do_asked<T: Source, D: Source, K: Sink, F: Sink>(
+fn do_asked<R: Threads + Sync, T: Source, D: Source, K: Sink, F: Sink, G: Gate + Sync>(
+    rt: &R,
     alloc: Global,
     words: Words,
     tree: &mut T,
     doc: &mut D,
     out: &mut K,
     fold: &mut F,
+    gate: &G,
 ) -> Status
     requires { HasRanges words }
     ensures no_usage { result ≡ Status.Usage → ⊥ }
@@ -86,39 +93,66 @@ fn do_asked<T: Source, D: Source, K: Sink, F: Sink>(
 {
     match words {
         Words::Design {
+            workers,
             budget,
             replay,
             fold: place,
             strip,
             steady,
-            ..
         } => {
-            if !is_plain(replay, steady) {
-                return Status::NotBuilt;
-            }
-            design(alloc, asked_of(budget, place, strip), tree, out, fold)
+            let asked = asked_of(workers, budget, replay, place, strip, steady);
+            design(rt, alloc, asked, tree, out, fold, gate)
         }
         Words::Check { .. } => check_both(alloc, tree, doc, out),
-        Words::Contours => draw(alloc, doc, out),
+        Words::Contours => draw(alloc, Drawing::Loops, doc, out),
+        Words::Pieces => draw(alloc, Drawing::Parts, doc, out),
+        Words::Picture => draw(alloc, Drawing::Layout, doc, out),
+        Words::Made { leaves, seed } => make(alloc, leaves, seed, out),
         Words::Rewrite => rewrite(alloc, doc, out),
+        Words::Solve {
+            budget,
+            strip,
+            fold: place,
+            mirror,
+        } => {
+            if !has_no_mirror(mirror) {
+                return Status::NotBuilt;
+            }
+            let asked = asked_of(1, budget, None, place, strip, None);
+            solve(alloc, asked, tree, out, fold)
+        }
+        Words::Trial { leaves, seed } => try_made(alloc, leaves, seed, out),
+        Words::Verify { .. } => verify_both(alloc, tree, doc, out),
+        Words::Help => show(HELP, out),
+        Words::Version => show(VERSION, out),
         _ => Status::NotBuilt,
     }
 }
 
-// Replays and the steady answer aren't built yet.
-fn is_plain(replay: Option<u64>, steady: Option<u64>) -> bool
-    ensures { IsTrue result ↔ ((replay ≡ None) × (steady ≡ None)) }
+// Designs with a mirror aren't built yet.
+fn has_no_mirror(mirror: Option<MirrorKind>) -> bool
+    ensures { IsTrue result ↔ (mirror ≡ None) }
 {
-    replay.is_none() && steady.is_none()
+    mirror.is_none()
 }
 
-fn asked_of(budget: u64, fold: Option<u64>, strip: Option<u64>) -> Asked
-    ensures { result ≡ asked_of budget fold strip }
+fn asked_of(
+    workers: u64,
+    budget: u64,
+    replay: Option<u64>,
+    fold: Option<u64>,
+    strip: Option<u64>,
+    steady: Option<u64>,
+) -> Asked
+    ensures { result ≡ asked_of workers budget replay fold strip steady }
 {
     Asked {
         sheet: sheet_of(strip),
         budget,
+        hands: workers,
+        replay,
         draws: fold.is_some(),
+        steady,
     }
 }
 

@@ -7,8 +7,7 @@ ghost use Rattle.bp_tree.specs.Text.{TreeOf};
 ghost use Rattle.bp_engine.specs.Reading.{ReadsDoc, ReadsNoDoc, ReadsNoTree, ReadsTree};
 
 use crate::Status;
-use crate::reading::{ReadError, read_all};
-use bp_base::{MOST_DOCUMENT_BYTES, MOST_TREE_BYTES, Source, Tree};
+use bp_base::{MOST_DOCUMENT_BYTES, MOST_TREE_BYTES, ReadError, Source, Tree, read_whole};
 use bp_document::{Document, ReadDoc, read_document};
 use bp_tree::{ReadTree, read_tree};
 use std::alloc::Global;
@@ -20,7 +19,7 @@ pub fn given_tree<T: Source>(alloc: Global, source: &mut T) -> Result<Tree, Stat
     ensures none { IfErr result (λ s. ReadsNoTree (T.left source.old) (T.left source.new) s) }
     ensures failed { IfErr result (λ s. s ≡ Status.ReadFault → Rose (T.faults source.old) (T.faults source.new)) }
 {
-    match read_all(alloc, source, MOST_TREE_BYTES as usize + 1) {
+    match read_whole(alloc, source, MOST_TREE_BYTES + 1) {
         Ok(bytes) => match read_tree(alloc, &bytes) {
             Ok(tree) => Ok(tree),
             Err(ReadTree::Fault(fault)) => Err(Status::TreeRefused(fault)),
@@ -38,7 +37,7 @@ pub fn given_document<D: Source>(alloc: Global, source: &mut D) -> Result<Docume
     ensures none { IfErr result (λ s. ReadsNoDoc (D.left source.old) (D.left source.new) s) }
     ensures failed { IfErr result (λ s. s ≡ Status.ReadFault → Rose (D.faults source.old) (D.faults source.new)) }
 {
-    match read_all(alloc, source, MOST_DOCUMENT_BYTES as usize + 1) {
+    match read_whole(alloc, source, MOST_DOCUMENT_BYTES + 1) {
         Ok(bytes) => match read_document(alloc, &bytes) {
             Ok(document) => Ok(document),
             Err(ReadDoc::Fault(fault)) => Err(Status::DocRefused(fault)),

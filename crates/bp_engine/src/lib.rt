@@ -2,19 +2,28 @@
 #![tactic(auto)]
 
 mod answering;
+mod certified;
 mod checking;
 mod command;
 mod design;
 mod drawing;
 mod folding;
 mod given;
+mod making;
 mod outcome;
-mod reading;
+mod pages;
+mod picturing;
 mod rewriting;
+mod solve;
 mod status;
 mod tell;
 mod text;
+mod tree_design;
+mod trying;
+mod verifying;
 
 pub use bp_words::{Words, words_of};
 pub use command::run;
+pub use pages::{HELP, VERSION};
 pub use status::Status;
+pub use tree_design::design_tree;

@@ -1,6 +1,7 @@
 use bp_check::Reason;
 use bp_document::DocFault;
 use bp_tree::TreeFault;
+use bp_verify::Reason as Flaw;
 
 /// How a run ended.
 #[derive(Clone, Copy, Debug, PartialEq, Eq)]
@@ -23,8 +24,12 @@ pub enum Status {
     NoMemory,
     /// The document fails this condition; the reason is written.
     No(Reason),
+    /// The certificate fails this condition; the reason is written.
+    NoCertificate(Flaw),
     /// The words ask for something that isn't built yet.
     NotBuilt,
+    /// The steady answer wants more than its budget, in paths that the searches under bounds may examine.
+    Unsteady { budget: u64 },
 }
 
 impl Status {
@@ -45,7 +50,9 @@ impl Status {
             Status::WriteFault => 5,
             Status::NoMemory => 6,
             Status::No(_) => 7,
+            Status::NoCertificate(_) => 7,
             Status::NotBuilt => 8,
+            Status::Unsteady { .. } => 9,
         }
     }
 }

@@ -37,7 +37,9 @@ fn put_status<E: Sink>(err: &mut E, status: Status) -> Result<(), Failed>
         Status::WriteFault => put(err, b"write fault\n"),
         Status::NoMemory => put(err, b"no memory\n"),
         Status::No(_) => put(err, b""),
+        Status::NoCertificate(_) => put(err, b""),
         Status::NotBuilt => put(err, b"not built\n"),
+        Status::Unsteady { budget } => put_unsteady(err, budget),
     }
 }
 
@@ -46,6 +48,23 @@ fn put_gave_up<E: Sink>(err: &mut E, side: u64, bound: u64) -> Result<(), Failed
     ensures cause { HasCause (E.faults err.old) (E.faults err.new) result }
 {
     put_two(err, b"gave up: side ", side, b" bound ", bound)
+}
+
+fn put_unsteady<E: Sink>(err: &mut E, budget: u64) -> Result<(), Failed>
+    ensures text { Puts (E.held err.old) (E.held err.new) result (codes "unsteady: budget " ++ decimal budget ++ 10 ∷ []) }
+    ensures cause { HasCause (E.faults err.old) (E.faults err.new) result }
+{
+    put_one(err, b"unsteady: budget ", budget)
+}
+
+// A number behind its words.
+fn put_one<E: Sink>(err: &mut E, start: &[u8], number: u64) -> Result<(), Failed>
+    ensures text { Puts (E.held err.old) (E.held err.new) result (start.now ++ decimal number ++ 10 ∷ []) }
+    ensures cause { HasCause (E.faults err.old) (E.faults err.new) result }
+{
+    let mut digits = Digits::new();
+    let parts = [start, digits.of(number), b"\n"];
+    put_parts(err, &parts)
 }
 
 // Two numbers, each behind its words.

@@ -1,9 +1,15 @@
+mod certificates;
+mod certified;
 mod checks;
 mod documents;
 mod drawings;
+mod pictures;
+mod replays;
 mod searches;
+mod solves;
+mod steady;
 
-use bp_base::{MemSink, MemSource, OpenGate};
+use bp_base::{Gate, MemSink, MemSource, OpenGate};
 use bp_engine::run;
 use std::alloc::Global;
 use std::process::Abort;
@@ -46,6 +52,19 @@ fn leave<R: Threads + Sync>(
     doc: &[u8],
     faults: Faults,
 ) -> Result<Left, Fail> {
+    leave_by(rt, alloc, line, tree, doc, faults, &OpenGate)
+}
+
+// The same with a gate that each turn of a worker passes.
+fn leave_by<R: Threads + Sync, G: Gate + Sync>(
+    rt: &R,
+    alloc: Global,
+    line: &str,
+    tree: &[u8],
+    doc: &[u8],
+    faults: Faults,
+    gate: &G,
+) -> Result<Left, Fail> {
     let mut words = Vec::new(alloc);
     for word in line.split(' ') {
         if !word.is_empty() {
@@ -80,7 +99,7 @@ fn leave<R: Threads + Sync>(
         &mut out,
         &mut fold,
         &mut err,
-        &OpenGate,
+        gate,
     );
     Ok(Left {
         number: status.number(),
@@ -103,6 +122,15 @@ fn check<R: Abort + Threads + Sync>(
     }
     Ok(())
 }
+
+const STRIP_0: &str =
+    "boxpleat 2\nsheet strip 0\nedges 4\nedge c p 1\nedge c q 1\nedge c r 1\nedge c s 1\nside 6\nbound 6\npoint p 0 0\npoint q 0 2\npoint r 0 4\npoint s 0 6\nfloor 2 6 1 2 3 4\nproof none\nend\n";
+
+const STRIP_4: &str =
+    "boxpleat 2\nsheet strip 4\nedges 3\nedge c p 1\nedge c q 1\nedge c r 1\nside 0\nbound 0\npoint p 0 0\npoint q 2 0\npoint r 4 0\nfloor 2 0 1 2 3\nproof none\nend\n";
+
+const STRIP_5: &str =
+    "boxpleat 2\nsheet strip 5\nedges 5\nedge c p 2\nedge c q 2\nedge c r 2\nedge c s 1\nedge c t 1\nside 4\nbound 4\npoint p 0 0\npoint q 4 0\npoint r 0 4\npoint s 3 3\npoint t 5 3\nfloor 4 4 1 2 3\nproof none\nend\n";
 
 #[test]
 fn designs_without_a_search(rt: HostRuntime) -> Result<(), Fail> {
@@ -160,21 +188,15 @@ fn designs_without_a_search(rt: HostRuntime) -> Result<(), Fail> {
             "design --strip 0",
             "c p 1\nc q 1\nc r 1\nc s 1\n",
             0,
-            "boxpleat 2\nsheet strip 0\nedges 4\nedge c p 1\nedge c q 1\nedge c r 1\nedge c s 1\nside 6\nbound 6\npoint p 0 0\npoint q 0 2\npoint r 0 4\npoint s 0 6\nfloor 2 6 1 2 3 4\nproof none\nend\n",
+            STRIP_0,
             "",
         ),
-        (
-            "design --strip 4",
-            "c p 1\nc q 1\nc r 1\n",
-            0,
-            "boxpleat 2\nsheet strip 4\nedges 3\nedge c p 1\nedge c q 1\nedge c r 1\nside 0\nbound 0\npoint p 0 0\npoint q 2 0\npoint r 4 0\nfloor 2 0 1 2 3\nproof none\nend\n",
-            "",
-        ),
+        ("design --strip 4", "c p 1\nc q 1\nc r 1\n", 0, STRIP_4, ""),
         (
             "design --strip 5",
             "c p 2\nc q 2\nc r 2\nc s 1\nc t 1\n",
             0,
-            "boxpleat 2\nsheet strip 5\nedges 5\nedge c p 2\nedge c q 2\nedge c r 2\nedge c s 1\nedge c t 1\nside 4\nbound 4\npoint p 0 0\npoint q 4 0\npoint r 0 4\npoint s 3 3\npoint t 5 3\nfloor 4 4 1 2 3\nproof none\nend\n",
+            STRIP_5,
             "",
         ),
     ];
@@ -308,24 +330,15 @@ fn refusals(rt: HostRuntime) -> Result<(), Fail> {
             "usage: boxpleat design, check, contours, made or trial\n",
         ),
         (
-            "design --replay 7",
-            "c p 1\nc q 1\nc r 1\nc s 1\n",
-            8,
-            "",
-            "not built\n",
-        ),
-        (
             "design --steady 9",
             "c p 1\nc q 1\nc r 1\nc s 1\n",
-            8,
+            9,
             "",
-            "not built\n",
+            "unsteady: budget 9\n",
         ),
         ("contours", "", 1, "", "document: line 1: Cut\n"),
+        ("pieces", "", 1, "", "document: line 1: Cut\n"),
         ("rewrite", "", 1, "", "document: line 1: Cut\n"),
-        ("pieces", "", 8, "", "not built\n"),
-        ("made 3 1", "", 8, "", "not built\n"),
-        ("trial 3 1", "", 8, "", "not built\n"),
         ("revise --tree f", "", 8, "", "not built\n"),
     ];
     check(&rt, rt.alloc(), &rows)

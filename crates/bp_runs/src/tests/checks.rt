@@ -6,6 +6,8 @@ use std::process::Abort;
 use std::test::Fail;
 use std::thread::Threads;
 
+const CHECK: &str = "check --tree f";
+
 const FIRST: &str =
     "boxpleat 1\nedges 5\nedge c p 2\nedge c q 2\nedge c r 2\nedge c s 1\nedge c t 1\nside 5\nbound 4\npoint p 0 0\npoint q 0 4\npoint r 4 0\npoint s 3 3\npoint t 3 5\nfloor 2 4 1 2 3 4 5\nproof 2\n0 split 1 2\n1 open x 1 2\nend\n";
 
@@ -18,22 +20,16 @@ fn with(alloc: Global, text: &str, old: &str, new: &str) -> Result<String, Fail>
     Ok(text)
 }
 
-fn judge<R: Abort + Threads + Sync>(
+pub fn judge<R: Abort + Threads + Sync>(
     rt: &R,
     alloc: Global,
+    words: &str,
     document: &str,
     rows: &[(&str, &str, &str, u8, &str, &str)],
 ) -> Result<(), Fail> {
     for (tree, old, new, number, out, err) in rows {
         let text = with(alloc, document, old, new)?;
-        let left = leave(
-            rt,
-            alloc,
-            "check --tree f",
-            tree.as_bytes(),
-            text.as_bytes(),
-            NONE,
-        )?;
+        let left = leave(rt, alloc, words, tree.as_bytes(), text.as_bytes(), NONE)?;
         assert_eq!(rt; left.number, *number, "{tree}, {text}");
         assert_eq!(rt; left.out.as_slice(), out.as_bytes(), "{tree}, {text}");
         assert_eq!(rt; left.err.as_slice(), err.as_bytes(), "{tree}, {text}");
@@ -137,7 +133,7 @@ fn one_change(rt: HostRuntime) -> Result<(), Fail> {
         ),
         (STAR, "end\n", "end", 1, "", "document: line 19: Cut\n"),
     ];
-    judge(&rt, rt.alloc(), FIRST, &rows)
+    judge(&rt, rt.alloc(), CHECK, FIRST, &rows)
 }
 
 #[test]
@@ -162,7 +158,7 @@ fn strips(rt: HostRuntime) -> Result<(), Fail> {
             "document: line 2: BadForm\n",
         ),
     ];
-    judge(&rt, rt.alloc(), STRIP, &rows)?;
+    judge(&rt, rt.alloc(), CHECK, STRIP, &rows)?;
     let rows = [
         (STAR, "", "", 0, "yes side 5 bound 5\n", ""),
         (
@@ -182,7 +178,7 @@ fn strips(rt: HostRuntime) -> Result<(), Fail> {
             "",
         ),
     ];
-    judge(&rt, rt.alloc(), SEARCHED, &rows)
+    judge(&rt, rt.alloc(), CHECK, SEARCHED, &rows)
 }
 
 #[test]
@@ -197,7 +193,7 @@ fn whole_search(rt: HostRuntime) -> Result<(), Fail> {
         (STAR, "t 3 5", "t 3 6", 7, "no Outside 5\n", ""),
         (STAR, "floor 2 4", "floor 2 5", 7, "no BadFloor\n", ""),
     ];
-    judge(&rt, rt.alloc(), &first, &rows)
+    judge(&rt, rt.alloc(), CHECK, &first, &rows)
 }
 
 // What `design` writes is answered by yes.
@@ -221,14 +217,7 @@ fn written_documents(rt: HostRuntime) -> Result<(), Fail> {
     ];
     for (line, tree) in rows {
         let design = leave(&rt, alloc, line, tree.as_bytes(), b"", NONE)?;
-        let left = leave(
-            &rt,
-            alloc,
-            "check --tree f",
-            tree.as_bytes(),
-            &design.out,
-            NONE,
-        )?;
+        let left = leave(&rt, alloc, CHECK, tree.as_bytes(), &design.out, NONE)?;
         assert_eq!(rt; left.number, 0, "{line}, {tree}");
         assert!(rt; left.out.starts_with(b"yes side "), "{line}, {tree}");
     }
@@ -236,9 +225,12 @@ fn written_documents(rt: HostRuntime) -> Result<(), Fail> {
 }
 
 // Each call of either source fails, until none is left to fail; how many there are.
-fn failing<R: Abort + Threads + Sync>(
+pub fn failing<R: Abort + Threads + Sync>(
     rt: &R,
     alloc: Global,
+    words: &str,
+    tree: &str,
+    document: &str,
     faults: &[Faults],
 ) -> Result<u64, Fail> {
     let mut count = 0u64;
@@ -246,9 +238,9 @@ fn failing<R: Abort + Threads + Sync>(
         let left = leave(
             rt,
             alloc,
-            "check --tree f",
-            STAR.as_bytes(),
-            FIRST.as_bytes(),
+            words,
+            tree.as_bytes(),
+            document.as_bytes(),
             *fault,
         )?;
         if left.number == 4 {
@@ -270,9 +262,9 @@ fn faults_at_each_call(rt: HostRuntime) -> Result<(), Fail> {
         trees.push(Faults { read: call, ..NONE })?;
         documents.push(Faults { doc: call, ..NONE })?;
     }
-    assert_eq!(rt; failing(&rt, alloc, &trees)?, 2);
+    assert_eq!(rt; failing(&rt, alloc, CHECK, STAR, FIRST, &trees)?, 2);
     let calls = FIRST.len() as u64 / 7 + 2;
-    assert_eq!(rt; failing(&rt, alloc, &documents)?, calls);
+    assert_eq!(rt; failing(&rt, alloc, CHECK, STAR, FIRST, &documents)?, calls);
     Ok(())
 }
 
@@ -280,26 +272,31 @@ fn faults_at_each_call(rt: HostRuntime) -> Result<(), Fail> {
 #[test]
 fn order(rt: HostRuntime) -> Result<(), Fail> {
     let alloc = rt.alloc();
-    let words = "check --tree f";
     let first = Faults { doc: 1, ..NONE };
-    let left = leave(&rt, alloc, words, b"c p 0\n", FIRST.as_bytes(), first)?;
+    let left = leave(&rt, alloc, CHECK, b"c p 0\n", FIRST.as_bytes(), first)?;
     assert_eq!(rt; left.number, 1);
     let write = Faults { write: 1, ..NONE };
-    let left = leave(&rt, alloc, words, STAR.as_bytes(), FIRST.as_bytes(), write)?;
+    let left = leave(&rt, alloc, CHECK, STAR.as_bytes(), FIRST.as_bytes(), write)?;
     assert_eq!(rt; left.number, 5);
     assert_eq!(rt; left.out.len(), 0);
     Ok(())
 }
 
 // Cuts the text after each byte but the last, and answers in how many lines it was cut.
-fn cut<R: Abort + Threads + Sync>(rt: &R, alloc: Global, bytes: &[u8]) -> Result<u64, Fail> {
+pub fn cut<R: Abort + Threads + Sync>(
+    rt: &R,
+    alloc: Global,
+    words: &str,
+    tree: &str,
+    bytes: &[u8],
+) -> Result<u64, Fail> {
     let mut line = 1u64;
     for at in 0..bytes.len() {
         if at > 0 && bytes[at - 1] == b'\n' {
             line = line.saturating_add(1);
         }
         let text = &bytes[..at];
-        let left = leave(rt, alloc, "check --tree f", STAR.as_bytes(), text, NONE)?;
+        let left = leave(rt, alloc, words, tree.as_bytes(), text, NONE)?;
         let err = format!(in alloc; "document: line {line}: Cut\n")?;
         assert_eq!(rt; left.number, 1);
         assert_eq!(rt; left.out.len(), 0);
@@ -310,7 +307,7 @@ fn cut<R: Abort + Threads + Sync>(rt: &R, alloc: Global, bytes: &[u8]) -> Result
 
 #[test]
 fn cut_at_each_byte(rt: HostRuntime) -> Result<(), Fail> {
-    let lines = cut(&rt, rt.alloc(), FIRST.as_bytes())?;
+    let lines = cut(&rt, rt.alloc(), CHECK, STAR, FIRST.as_bytes())?;
     assert_eq!(rt; lines, 19);
     Ok(())
 }

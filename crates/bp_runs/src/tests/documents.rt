@@ -116,6 +116,27 @@ fn draws(rt: HostRuntime) -> Result<(), Fail> {
             "contours 1\nedge a\nloop 0 0 4 0 4 1 8 1 8 5 7 5 7 9 3 9 3 8 0 8\nloop 3 4 3 5 4 5 4 4\nedge c\nloop 8 0 9 0 9 1 8 1\nedge p\nloop 1 1 3 1 3 3 1 3\nedge q\nloop 5 2 7 2 7 4 5 4\nedge s\nloop 4 6 6 6 6 8 4 8\nedge t\nloop 0 5 2 5 2 7 0 7\nend\n",
             "",
         ),
+        (
+            "pieces",
+            TWIGS,
+            0,
+            "pieces 1\nedge a\npiece 0 0 15\nedge b\npiece 3 0 15\nedge a1\npiece 0 0 1\nedge a2\npiece 0 1 2\nedge b1\npiece 5 0 1\nedge b2\npiece 5 1 2\nend\n",
+            "",
+        ),
+        (
+            "pieces",
+            "boxpleat 1\nedges 4\nedge r a 1\nedge r c 1\nedge a p 1\nedge a q 1\nside 4\nbound 3\npoint c 0 4\npoint p 0 0\npoint q 4 4\nfloor 3 3 1 2\nproof none\nend\n",
+            0,
+            "pieces 1\nedge a\npiece 0 0 4\npiece 2 2 4\nedge c\npiece 0 3 1\nedge p\npiece 0 0 1\nedge q\npiece 3 3 1\nend\n",
+            "",
+        ),
+        (
+            "pieces",
+            "boxpleat 1\nedges 6\nedge r a 1\nedge r c 1\nedge a p 1\nedge a q 1\nedge a s 1\nedge a t 1\nside 9\nbound 3\npoint c 9 0\npoint p 2 2\npoint q 6 3\npoint s 5 7\npoint t 1 6\nfloor 3 3 1 2\nproof none\nend\n",
+            0,
+            "pieces 1\nedge a\npiece 0 0 60\nhole 3 4 1\nedge c\npiece 8 0 1\nedge p\npiece 1 1 4\nedge q\npiece 5 2 4\nedge s\npiece 4 6 4\nedge t\npiece 0 5 4\nend\n",
+            "",
+        ),
     ];
     check(&rt, rt.alloc(), &rows)
 }
@@ -206,6 +227,13 @@ fn draws_nothing(rt: HostRuntime) -> Result<(), Fail> {
             1,
             "",
             "document: line 19: BadDepth\n",
+        ),
+        (
+            "pieces",
+            "boxpleat 2\nsheet strip 0\nedges 4\nedge c p 1\nedge c q 1\nedge c r 1\nedge c s 1\nside 6\nbound 6\npoint p 0 0\npoint q 0 2\npoint r 0 4\npoint s 0 6\nfloor 2 6 1 2 3 4\nproof none\nend\n",
+            7,
+            "no StripSheet\n",
+            "",
         ),
     ];
     check(&rt, rt.alloc(), &rows)

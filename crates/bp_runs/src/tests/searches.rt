@@ -1,5 +1,6 @@
 // `design` where the opening is above the floor.
-use super::{NONE, check, leave};
+use super::{NONE, check, leave, leave_by};
+use bp_base::HoldGate;
 use bp_check::{Verdict, check as check_document};
 use bp_document::read_document;
 use bp_tree::read_tree;
@@ -15,7 +16,7 @@ pub const STAR: &str = "c p 2\nc q 2\nc r 2\nc s 1\nc t 1\n";
 pub const WHOLE: &str =
     "boxpleat 2\nsheet square\nedges 5\nedge c p 2\nedge c q 2\nedge c r 2\nedge c s 1\nedge c t 1\nside 5\nbound 5\npoint p 0 0\npoint q 0 4\npoint r 4 0\npoint s 3 3\npoint t 3 5\nfloor 2 4 1 2 3 4 5\nproof 257\n0 split 1 2\n1 split 1 3\n2 split 2 3\n3 walk x 1 2 3\n3 walk x 1 3 2\n3 split 1 4\n4 split 1 5\n5 split 2 4\n6 walk x 1 2 4\n6 walk x 1 4 2\n6 split 2 5\n7 walk x 1 2 5\n7 walk x 1 5 2\n7 split 3 4\n8 walk x 1 3 4\n8 walk x 1 4 3\n8 walk y 2 3 4\n8 walk y 2 4 3\n7 walk y 5 2 3\n6 walk y 4 2 3\n5 walk x 5 1 2\n5 split 2 4\n6 walk x 1 2 4\n6 walk x 1 4 2\n6 split 3 4\n7 walk x 1 3 4\n7 walk x 1 4 3\n7 walk y 2 3 4\n7 walk y 2 4 3\n6 walk y 4 2 3\n5 split 2 4\n6 walk x 1 2 4\n6 walk x 1 4 2\n6 split 3 4\n7 walk x 1 3 4\n7 walk x 1 4 3\n7 walk y 2 3 4\n7 walk y 2 4 3\n6 walk y 4 2 3\n4 walk x 4 1 2\n4 split 1 5\n5 split 2 5\n6 walk x 1 2 5\n6 walk x 1 5 2\n6 split 3 5\n7 walk x 1 3 5\n7 walk x 1 5 3\n7 walk y 2 3 5\n7 walk y 2 5 3\n6 walk y 5 2 3\n5 walk x 5 1 2\n5 split 4 5\n6 split 3 5\n7 walk x 1 3 5\n7 walk x 4 5 3\n7 walk y 2 3 5\n7 walk y 1 5 3\n6 walk y 1 4 5\n5 walk y 5 1 4\n4 split 4 5\n5 split 2 5\n6 walk x 1 2 5\n6 walk x 4 5 2\n6 split 1 5\n7 split 3 5\n8 walk x 1 3 5\n8 walk x 1 5 3\n8 walk y 2 3 5\n8 walk y 2 5 3\n7 walk x 4 5 1 2\n7 walk y 4 1 5\n7 walk y 2 5 1\n6 walk y 5 2 3\n5 split 1 5\n6 split 2 5\n7 walk x 1 2 5\n7 walk x 1 5 2\n7 split 3 5\n8 walk x 1 3 5\n8 walk x 1 5 3\n8 walk y 2 3 5\n8 walk y 2 5 3\n7 walk y 4 5 2 3\n6 walk x 5 1 2\n6 walk y 4 1 5\n6 walk y 4 5 1\n3 split 1 4\n4 split 1 5\n5 split 3 4\n6 walk x 1 3 4\n6 walk x 1 4 3\n6 split 2 4\n7 walk x 1 2 4\n7 walk x 1 4 2\n7 walk y 3 2 4\n7 walk y 3 4 2\n6 walk y 4 3 2\n5 walk x 5 1 2\n5 split 3 4\n6 walk x 1 3 4\n6 walk x 1 4 3\n6 split 2 4\n7 walk x 1 2 4\n7 walk x 1 4 2\n7 walk y 3 2 4\n7 walk y 3 4 2\n6 walk y 4 3 2\n5 split 3 4\n6 walk x 1 3 4\n6 walk x 1 4 3\n6 split 2 4\n7 walk x 1 2 4\n7 walk x 1 4 2\n7 walk y 3 2 4\n7 walk y 3 4 2\n6 walk y 4 3 2\n4 walk x 4 1 2\n4 split 1 5\n5 split 3 5\n6 walk x 1 3 5\n6 walk x 1 5 3\n6 split 2 5\n7 walk x 1 2 5\n7 walk x 1 5 2\n7 walk y 3 2 5\n7 walk y 3 5 2\n6 walk y 5 3 2\n5 walk x 5 1 2\n5 split 4 5\n6 split 2 5\n7 walk x 1 2 5\n7 walk x 4 5 2\n7 walk y 3 2 5\n7 walk y 1 5 2\n6 walk y 1 4 5\n5 walk y 5 1 4\n4 split 4 5\n5 split 3 5\n6 walk x 1 3 5\n6 walk x 4 5 3\n6 split 1 5\n7 split 2 5\n8 walk x 1 2 5\n8 walk x 1 5 2\n8 walk y 3 2 5\n8 walk y 3 5 2\n7 walk x 4 5 1 2\n7 walk y 4 1 5\n7 walk y 3 5 1\n6 walk y 5 3 2\n5 split 1 5\n6 split 2 5\n7 walk x 1 2 5\n7 walk x 1 5 2\n7 walk y 3 2 5\n7 walk y 4 5 2\n6 walk x 5 1 2\n6 walk y 4 1 5\n6 walk y 4 5 1\n2 walk x 3 1 2\n2 split 1 4\n3 split 1 5\n4 split 2 4\n5 walk x 1 2 4\n5 walk x 1 4 2\n5 split 2 5\n6 walk x 1 2 5\n6 walk x 1 5 2\n6 split 4 5\n7 walk x 1 4 5\n7 walk y 2 4 5\n6 walk y 5 2 4\n5 split 4 5\n6 walk x 1 4 5\n6 split 2 5\n7 walk x 1 2 5\n7 walk x 1 5 2\n7 walk y 4 2 5\n7 walk y 4 5 2\n4 walk x 5 1 2\n4 split 2 4\n5 walk x 1 2 4\n5 walk x 1 4 2\n5 split 3 5\n6 split 4 5\n7 walk x 1 4 5\n7 walk y 2 4 5\n6 split 3 4\n7 walk x 5 3 4\n7 walk x 1 4 3\n7 walk y 1 3 4\n7 walk y 2 4 3\n6 walk y 1 3 5\n6 walk y 1 5 3\n5 split 3 5\n6 split 2 5\n7 walk x 1 2 5\n7 walk x 3 5 2\n7 walk y 4 2 5\n7 walk y 1 5 2\n6 split 2 3\n7 walk x 1 2 3\n7 walk x 5 3 2\n7 walk y 4 2 3\n7 walk y 1 3 2\n6 walk y 1 3 5\n6 walk y 1 5 3\n4 walk y 5 1 3\n3 walk x 4 1 2\n3 split 1 5\n4 split 2 5\n5 walk x 1 2 5\n5 walk x 1 5 2\n5 split 3 4\n6 split 4 5\n7 walk x 3 4 5\n7 walk y 1 4 5\n6 split 3 5\n7 walk x 4 3 5\n7 walk x 1 5 3\n7 walk y 1 3 5\n7 walk y 2 5 3\n6 walk y 1 3 4\n6 walk y 1 4 3\n5 split 3 4\n6 split 2 4\n7 walk x 1 2 4\n7 walk x 3 4 2\n7 walk y 5 2 4\n7 walk y 1 4 2\n6 split 2 3\n7 walk x 1 2 3\n7 walk x 4 3 2\n7 walk y 5 2 3\n7 walk y 1 3 2\n6 walk y 1 3 4\n6 walk y 1 4 3\n4 walk x 5 1 2\n4 split 3 4\n5 split 3 5\n6 split 4 5\n7 walk x 3 4 5\n7 walk y 1 4 5\n6 walk x 5 3 4\n6 walk y 1 3 5\n6 walk y 1 5 3\n5 split 4 5\n6 split 3 5\n7 walk x 4 3 5\n7 walk x 4 5 3\n7 walk y 1 3 5\n7 walk y 1 5 3\n6 walk y 1 4 5\n5 walk y 1 3 4\n5 walk y 1 4 3\n4 walk y 5 1 3\n3 walk y 4 1 3\nend\n";
 
-const SPENT: &str =
+pub const SPENT: &str =
     "boxpleat 2\nsheet square\nedges 5\nedge c p 2\nedge c q 2\nedge c r 2\nedge c s 1\nedge c t 1\nside 5\nbound 4\npoint p 0 0\npoint q 0 4\npoint r 4 0\npoint s 3 3\npoint t 3 5\nfloor 2 4 1 2 3 4 5\nproof 2\n0 split 1 2\n1 open x 1 2\nend\n";
 
 pub const BEETLE: &str =
@@ -30,6 +31,18 @@ fn star_is_searched(rt: HostRuntime) -> Result<(), Fail> {
         ("design --workers 16", STAR, 0, WHOLE, ""),
     ];
     check(&rt, rt.alloc(), &rows)
+}
+
+// Neither of two workers gives up waiting for the other, so two threads met, and the second examined a branch.
+#[test]
+fn two_workers_meet(rt: HostRuntime) -> Result<(), Fail> {
+    let gate = HoldGate::new();
+    let line = "design --workers 2";
+    let left = leave_by(&rt, rt.alloc(), line, STAR.as_bytes(), b"", NONE, &gate)?;
+    assert_eq!(rt; left.number, 0);
+    assert_eq!(rt; left.out.as_slice(), WHOLE.as_bytes());
+    assert!(rt; !gate.gave_up());
+    Ok(())
 }
 
 #[test]

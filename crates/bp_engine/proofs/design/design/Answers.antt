@@ -1,6 +1,7 @@
 use Rattle.std.proofs.Common.{inl, inr, refl, subst}
 use Rattle.bp_base.specs.Tree.{TreeValue}
 use Rattle.bp_metric.specs.Stated.{CoversStated}
+use Rattle.bp_engine.specs.Run.{IsEnough}
 use Rattle.bp_engine.proofs.BytesRead.{no_tree_quiet}
 use Rattle.bp_engine.proofs.design.design.Goals as goal
 
@@ -10,6 +11,10 @@ returns-in-Ok-clause-designs g c = inr (c.in-Ok.tree, c.in-Ok.ensures.reads, c.w
 pub returns-in-Ok-clause-covered : goal.returns-in-Ok-clause-covered
 returns-in-Ok-clause-covered g c = λ b U some text covers.
     c.write_design.ensures.covered (subst (λ (V : TreeValue). CoversStated V c.args.asked.sheet c.args.asked.budget) (c.in-Ok.ensures.only b U some text) covers)
+
+pub returns-in-Ok-clause-enough : goal.returns-in-Ok-clause-enough
+returns-in-Ok-clause-enough g c = λ b U some text enough.
+    c.write_design.ensures.enough (subst (λ (V : TreeValue). IsEnough V c.args.asked.sheet c.args.asked.steady) (c.in-Ok.ensures.only b U some text) enough)
 
 pub returns-in-Ok-clause-read : goal.returns-in-Ok-clause-read
 returns-in-Ok-clause-read g c = λ is. absurd (c.write_design.ensures.no_read is)

@@ -1,24 +1,24 @@
 use Rattle.std.proofs.Common.{inr, refl}
-use Rattle.bp_engine.proofs.Outcomes.{drawable, not_covered, of_tree, outcome_loud, outcome_read}
+use Rattle.bp_engine.proofs.Outcomes.{none_covered, none_enough, none_loud, none_read, none_write}
 use Rattle.bp_engine.proofs.design.write_design.Goals as goal
 
-pub write_outcome-requires-clause-ranges : goal.write_outcome-requires-clause-ranges
-write_outcome-requires-clause-ranges g c = c.in-Ok.ensures.proved.ranges
+pub returns-in-Ok-clause-enough : goal.returns-in-Ok-clause-enough
+returns-in-Ok-clause-enough g c = λ enough. c.write_document_of.ensures.steady
 
-pub write_outcome-requires-clause-valid : goal.write_outcome-requires-clause-valid
-write_outcome-requires-clause-valid g c = drawable c.args.tree.now c.args.asked c.in-Ok.document c.in-Ok.ensures c.requires.square
-
-pub returns-in-Ok-clause-designs : goal.returns-in-Ok-clause-designs
-returns-in-Ok-clause-designs g c = of_tree c.args.tree.now c.args.asked c.in-Ok.document _ _ c.write_outcome.result c.in-Ok.ensures c.write_outcome.ensures.writes
-
-pub returns-in-Ok-clause-covered : goal.returns-in-Ok-clause-covered
-returns-in-Ok-clause-covered g c = not_covered c.args.tree.now c.args.asked c.in-Ok.document _ _ c.write_outcome.result c.in-Ok.ensures c.write_outcome.ensures.writes
-
-pub returns-in-Ok-clause-loud : goal.returns-in-Ok-clause-loud
-returns-in-Ok-clause-loud g c = outcome_loud c.write_outcome.result c.write_outcome.ensures.ends
-
-pub returns-in-Ok-clause-no_read : goal.returns-in-Ok-clause-no_read
-returns-in-Ok-clause-no_read g c = outcome_read c.write_outcome.result c.write_outcome.ensures.ends
+pub returns-in-Err-clause-enough : goal.returns-in-Err-clause-enough
+returns-in-Err-clause-enough g c = none_enough c.args.tree.now c.args.asked c.in-Err.status c.in-Err.ensures.none
 
 pub returns-in-Err-clause-designs : goal.returns-in-Err-clause-designs
-returns-in-Err-clause-designs g c = inr (inr (refl, refl))
+returns-in-Err-clause-designs g c = inr (inr (c.in-Err.ensures.none, refl))
+
+pub returns-in-Err-clause-covered : goal.returns-in-Err-clause-covered
+returns-in-Err-clause-covered g c = λ covers. none_covered c.args.tree.now c.args.asked c.in-Err.status c.in-Err.ensures.none
+
+pub returns-in-Err-clause-loud : goal.returns-in-Err-clause-loud
+returns-in-Err-clause-loud g c = none_loud c.args.tree.now c.args.asked c.in-Err.status c.in-Err.ensures.none
+
+pub returns-in-Err-clause-no_read : goal.returns-in-Err-clause-no_read
+returns-in-Err-clause-no_read g c = none_read c.args.tree.now c.args.asked c.in-Err.status c.in-Err.ensures.none
+
+pub returns-in-Err-clause-write : goal.returns-in-Err-clause-write
+returns-in-Err-clause-write g c = λ is. absurd (none_write c.args.tree.now c.args.asked c.in-Err.status c.in-Err.ensures.none is)
