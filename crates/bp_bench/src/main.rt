@@ -1,9 +1,10 @@
 //! Times a warm path, a whole search with its records, joining these, the same search by the machine, pushes and takes of a hand, and
-//! searches by hands on threads beside a plain stack, on 16 leaves, and prints on standard error how many were done in how many
+//! searches by hands on threads beside a plain stack, and the searches of the steady answer, on 16 leaves, and prints on standard error how many were done in how many
 //! milliseconds.
 #![tactic(auto)]
 
 mod hands;
+mod steadied;
 
 ghost use Rattle.std.specs.Prelude.{◌≡◌, ◌≤◌, ◌<◌, ◌*◌, ◌-◌, ◌+◌, ◌/◌, ◌++◌, ℕ, IsTrue, IfOk, OnOk, length};
 ghost use Rattle.bp_base.specs.Limits.{most_hands};
@@ -29,6 +30,7 @@ use std::io;
 use std::process::ExitCode;
 use std::rt::Runtime;
 use std::time::Instant;
+use steadied::timed_steady;
 
 // Adds the steps whose pairs are pairs of leaves and that close no cycle, and answers how many were added.
 fn go_down(metric: &Metric, warm: &mut Warm, steps: &[(u64, u64, Choice)]) -> u64
@@ -241,6 +243,7 @@ fn main(rt: HostRuntime) -> io::Result<ExitCode> {
     timed_machine(&rt, rt.alloc(), &metric, 1)?;
     timed_machine(&rt, rt.alloc(), &metric, 4)?;
     timed_pool(&rt, rt.alloc())?;
+    timed_steady(&rt, rt.alloc())?;
     // The searches of these trees don't end before the budget is spent.
     for seed in [1, 2, 3] {
         timed_hands(&rt, rt.alloc(), seed)?;
