@@ -35,13 +35,13 @@ module _ (left after : Option (List ℕ)) (b : List ℕ) (some : left ≡ Some b
       h.0.none D (subst (λ (c : List ℕ). IsTextOf c D) (sym whole) text)
 
   -- where the tree is one, only want of memory keeps it from coming
-  tree_comes : (T : TreeValue) → TreeOf b T → (status : Status) → ReadsNoTree left after status → (status ≡ ReadFault → ⊥) → status ≡ NoMemory
+  pub tree_comes : (T : TreeValue) → TreeOf b T → (status : Status) → ReadsNoTree left after status → (status ≡ ReadFault → ⊥) → status ≡ NoMemory
   tree_comes T tree (TreeRefused fault) r read = absurd (no_tree_fault T fault tree r)
   tree_comes T tree ReadFault r read = absurd (read refl)
   tree_comes T tree NoMemory r read = refl
   tree_comes T tree status r read = absurd r
 
-  doc_comes : (D : Document) → IsTextOf b D → (status : Status) → ReadsNoDoc left after status → (status ≡ ReadFault → ⊥) → status ≡ NoMemory
+  pub doc_comes : (D : Document) → IsTextOf b D → (status : Status) → ReadsNoDoc left after status → (status ≡ ReadFault → ⊥) → status ≡ NoMemory
   doc_comes D text (DocRefused fault) r read = absurd (no_doc_fault D fault text r)
   doc_comes D text ReadFault r read = absurd (read refl)
   doc_comes D text NoMemory r read = refl

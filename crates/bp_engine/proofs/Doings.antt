@@ -9,7 +9,7 @@ use Rattle.bp_metric.specs.Stated.{CoversStated}
 use Rattle.bp_document.specs.declared.document.Document.{Document}
 use Rattle.bp_document.specs.Faults.{IsTextOf}
 use Rattle.bp_words.specs.declared.words.Words.{Words}
-use Rattle.bp_words.specs.declared.words.Words.TheVariants.{Design, Check, Contours, Help, Made, Picture, Pieces, Rewrite, Solve, Verify, Version, Trial}
+use Rattle.bp_words.specs.declared.words.Words.TheVariants.{Design, Check, Contours, Help, Made, Picture, Pieces, Revise, Rewrite, Solve, Verify, Version, Trial}
 use Rattle.bp_engine.specs.declared.design.Asked.{Asked}
 use Rattle.bp_engine.specs.declared.status.Status.{Status}
 use Rattle.bp_engine.specs.declared.status.Status.TheVariants.{Done, GaveUp, ReadFault, WriteFault, NoMemory, No, Unsteady}
@@ -22,8 +22,9 @@ use Rattle.bp_engine.specs.Drawings.{Draws}
 use Rattle.bp_engine.specs.Making.{Makes}
 use Rattle.bp_engine.specs.Pages.{Shows, help_page, version_page}
 use Rattle.bp_engine.specs.Reading.{ReadsTree}
+use Rattle.bp_engine.specs.Revising.{RevisesBoth}
 use Rattle.bp_engine.specs.Solves.{Solves}
-use Rattle.bp_engine.specs.Run.{Does, IsDesignEnd, IsDone, IsEnough, Leaves, View, asked_of, sinks_of, solve_asked_of}
+use Rattle.bp_engine.specs.Run.{Does, IsDesignEnd, IsDone, IsEnough, IsRevisedToEnd, Leaves, View, asked_of, sinks_of, solve_asked_of}
 use Rattle.bp_engine.specs.Texts.{MayWrite}
 use Rattle.bp_engine.proofs.Answered.{no_read_fault}
 use Rattle.bp_engine.proofs.Asking.{no_drawing, solve_no_drawing, solve_uses_fold, uses_fold}
@@ -125,6 +126,20 @@ module _ (before after : View) (status : Status) where
     ];
     write = λ fault. inl (write fault);
     complete = λ quiet. verify_completes before.tree after.tree before.doc after.doc before.out after.out status verifies (λ fault. elim (read fault) [
+      | inl rose ↦ quiet.tree rose.0
+      | inr rose ↦ quiet.doc rose.2
+    ]) (λ fault. quiet.out (write fault));
+  }
+
+  pub revise_does : {X : Type 0} (place budget : ℕ) (doc doc' : X) → RevisesBoth budget before.tree after.tree before.doc after.doc before.out after.out status → ((status ≡ ReadFault → ⊥) → (status ≡ WriteFault → ⊥) → IsRevisedToEnd before.tree before.doc budget status) → (status ≡ ReadFault → (Rose before.tree_faults after.tree_faults × (doc' ≡ doc)) ⊎ ((t : TreeValue) × ReadsTree before.tree after.tree t × Rose before.doc_faults after.doc_faults)) → (status ≡ WriteFault → Rose before.out_faults after.out_faults) → Does (Revise place budget) before after status
+  revise_does place budget doc doc' revises complete read write = record {
+    answers = revises;
+    read = λ fault. elim (read fault) [
+      | inl rose ↦ inl (tt, rose.0)
+      | inr rose ↦ inr (tt, rose.2)
+    ];
+    write = λ fault. inl (write fault);
+    complete = λ quiet. complete (λ fault. elim (read fault) [
       | inl rose ↦ quiet.tree rose.0
       | inr rose ↦ quiet.doc rose.2
     ]) (λ fault. quiet.out (write fault));

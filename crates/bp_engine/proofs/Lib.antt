@@ -5,6 +5,7 @@ mod Completed
 mod Checked
 mod Verified
 mod Drawings
+mod Revised
 mod Outcomes
 mod Asking
 mod Doings

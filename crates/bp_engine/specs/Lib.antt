@@ -1,9 +1,10 @@
--- What `run` promises, which whoever relies on it reads: Run, and what it names: Designs, Solves, Checking, Verifying, Documents, Drawings, Making, Trials, Pages, Reading, Texts.
+-- What `run` promises, which whoever relies on it reads: Run, and what it names: Designs, Solves, Checking, Verifying, Revising, Documents, Drawings, Making, Trials, Pages, Reading, Texts.
 pub mod Run
 pub mod Designs
 pub mod Solves
 pub mod Checking
 pub mod Verifying
+pub mod Revising
 pub mod Documents
 pub mod Drawings
 pub mod Making

@@ -22,11 +22,12 @@ use Rattle.bp_words.specs.declared.words.Words.TheVariants.{Design, Made, Trial,
 use Rattle.bp_words.specs.Words.{AreApart, most_solve_budget}
 use Rattle.bp_engine.specs.declared.design.Asked.{Asked}
 use Rattle.bp_engine.specs.declared.status.Status.{Status}
-use Rattle.bp_engine.specs.declared.status.Status.TheVariants.{Done, DocRefused, GaveUp, ReadFault, WriteFault, NoMemory, No, NoCertificate}
+use Rattle.bp_engine.specs.declared.status.Status.TheVariants.{Done, DocRefused, GaveUp, ReadFault, WriteFault, NoMemory, No, NoCertificate, ShapeDiffers}
 use Rattle.bp_engine.specs.Checking.{yes_text}
 use Rattle.bp_engine.specs.Designs.{Sinks, WritesAll, WritesFront}
 use Rattle.bp_engine.specs.Documents.{no_text}
-use Rattle.bp_engine.specs.Reading.{ReadsDoc}
+use Rattle.bp_engine.specs.Reading.{ReadsDoc, ReadsNoDoc}
+use Rattle.bp_engine.specs.Revising.{DiffersInShape, ReadsOtherShape}
 use Rattle.bp_engine.specs.Run.{sheet_of}
 use Rattle.bp_engine.specs.Verifying.{IsVerified, ReadsCertificate, uncertified_text}
 
@@ -73,6 +74,7 @@ WritesOutcome draws text D held now status =
 -- the statuses that answer a document, and come behind their text
 abbrev pub IsFinal : Status → Type 0
 IsFinal Done = Unit {0}
+IsFinal (GaveUp side bound) = Unit {0}
 IsFinal (No reason) = Unit {0}
 IsFinal (NoCertificate reason) = Unit {0}
 IsFinal status = ⊥
@@ -85,6 +87,13 @@ WritesText status text held now result =
 -- this answers a document that was read to the end of the source
 abbrev pub AnswersDoc : (Document → Status → List ℕ → Type 0) → Option (List ℕ) → Option (List ℕ) → Status → List ℕ → Type 0
 AnswersDoc Answers left after status text = (D : Document) × ReadsDoc left after D × Answers D status text
+
+-- why there is no revision: of a document, and of what is left of the source
+abbrev pub HasNoRevision : TreeValue → Document → Status → Type 0
+HasNoRevision T old status = (status ≡ NoMemory) ⊎ (DiffersInShape T old × (status ≡ ShapeDiffers))
+
+abbrev pub ReadsNoRevision : TreeValue → Option (List ℕ) → Option (List ℕ) → Status → Type 0
+ReadsNoRevision T left after status = ReadsNoDoc left after status ⊎ (ReadsOtherShape T left after × (status ≡ ShapeDiffers))
 
 -- the answer to a verdict on a document of this side and bound
 abbrev pub IsAnswerTo : ℕ → ℕ → Verdict → Status → List ℕ → Type 0

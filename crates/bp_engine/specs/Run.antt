@@ -1,5 +1,5 @@
--- What a run promises of each command: what it has read and written, with which status, and what it leaves as it was. A command that isn't
--- built yet answers so, and uses nothing.
+-- What a run promises of each command: what it has read and written, with which status, and what it leaves as it was. `solve` with a mirror
+-- isn't built yet: it answers so, and uses nothing.
 use Rattle.std.specs.Prelude.{◌≡◌, ◌⊎◌, ℕ, List, Bool, true, false}
 use Rattle.std.specs.declared.option.Option.{Option}
 use Rattle.std.specs.declared.option.Option.TheVariants.{None, Some}
@@ -14,16 +14,17 @@ use Rattle.bp_document.specs.declared.document.Document.{Document}
 use Rattle.bp_document.specs.declared.fault.DocFault.{DocFault}
 use Rattle.bp_document.specs.Faults.{IsTextOf}
 use Rattle.bp_check.specs.declared.verdict.Reason.{Reason}
+use Rattle.bp_check.specs.Reasons.{IsFirstReason}
 use Rattle.bp_check.specs.Written.{IsWanted}
 use Rattle.bp_steady.specs.Sums.{IsMWithin}
 use Rattle.bp_certificate.specs.declared.certificate.Certificate.{Certificate}
 use Rattle.bp_certificate.specs.Faults.{IsTextOf as IsCertificateText}
 use Rattle.bp_verify.specs.declared.verdict.Reason.{Reason as Flaw}
 use Rattle.bp_words.specs.declared.words.Words.{Words}
-use Rattle.bp_words.specs.declared.words.Words.TheVariants.{Design, Check, Contours, Help, Made, Picture, Pieces, Rewrite, Solve, Verify, Version, Trial}
+use Rattle.bp_words.specs.declared.words.Words.TheVariants.{Design, Check, Contours, Help, Made, Picture, Pieces, Revise, Rewrite, Solve, Verify, Version, Trial}
 use Rattle.bp_engine.specs.declared.design.Asked.{Asked}
 use Rattle.bp_engine.specs.declared.status.Status.{Status}
-use Rattle.bp_engine.specs.declared.status.Status.TheVariants.{Done, TreeRefused, DocRefused, Usage, GaveUp, ReadFault, WriteFault, NoMemory, No, NoCertificate, NotBuilt, Unsteady}
+use Rattle.bp_engine.specs.declared.status.Status.TheVariants.{Done, TreeRefused, DocRefused, Usage, GaveUp, ReadFault, WriteFault, NoMemory, No, NoCertificate, NotBuilt, Unsteady, ShapeDiffers}
 use Rattle.bp_engine.specs.Checking.{ChecksBoth}
 use Rattle.bp_engine.specs.Designs.{Designs, Sinks}
 use Rattle.bp_engine.specs.declared.drawing.Drawing.TheVariants.{Loops, Parts, Layout}
@@ -32,6 +33,7 @@ use Rattle.bp_engine.specs.Drawings.{Draws}
 use Rattle.bp_engine.specs.Making.{Makes}
 use Rattle.bp_engine.specs.Pages.{Shows, help_page, version_page}
 use Rattle.bp_engine.specs.Reading.{ReadsTree}
+use Rattle.bp_engine.specs.Revising.{CoversRevision, DiffersInShape, IsRevisable, RevisesBoth}
 use Rattle.bp_engine.specs.Solves.{Solves}
 use Rattle.bp_engine.specs.Texts.{MayWrite}
 use Rattle.bp_engine.specs.Trials.{Tries}
@@ -94,6 +96,7 @@ Answers Rewrite before after status = Rewrites before.doc after.doc before.out a
 Answers (Solve budget strip fold None) before after status =
     Solves (solve_asked_of budget fold strip) before.tree after.tree (sinks_of before) (sinks_of after) status
 Answers (Verify place) before after status = VerifiesBoth before.tree after.tree before.doc after.doc before.out after.out status
+Answers (Revise place budget) before after status = RevisesBoth budget before.tree after.tree before.doc after.doc before.out after.out status
 Answers w before after status = status ≡ NotBuilt
 
 -- the command reads a tree from the source `tree`
@@ -102,6 +105,7 @@ UsesTree (Design workers budget replay fold strip steady) = Unit {0}
 UsesTree (Check place) = Unit {0}
 UsesTree (Solve budget strip fold None) = Unit {0}
 UsesTree (Verify place) = Unit {0}
+UsesTree (Revise place budget) = Unit {0}
 UsesTree w = ⊥
 
 -- the command reads a document or a certificate from the source `doc`
@@ -112,6 +116,7 @@ UsesDoc Pieces = Unit {0}
 UsesDoc Picture = Unit {0}
 UsesDoc Rewrite = Unit {0}
 UsesDoc (Verify place) = Unit {0}
+UsesDoc (Revise place budget) = Unit {0}
 UsesDoc w = ⊥
 
 -- the command writes a drawing on the sink `fold`
@@ -162,6 +167,20 @@ IsDrawnToEnd doc status =
     ((b : List ℕ) (D : Document) → doc ≡ Some b → IsTextOf b D → IsDoneOrNo status)
     × ((b : List ℕ) (C : Certificate) → doc ≡ Some b → IsCertificateText b C → IsDoneOrNo status ⊎ IsDoneOrUncertified status)
 
+-- Which statuses come of an old document and a tree: where it doesn't check against its own tree, No; where its shape differs, ShapeDiffers; and
+-- else a revision, which isn't given up where the budget covers it. Memory may lack.
+pub record EndsRevision (T : TreeValue) (old : Document) (B : ℕ) (status : Status) : Type 0 where
+  pub ends : IsDoneOrGivenUp status ⊎ ((reason : Reason) × (status ≡ No reason)) ⊎ (status ≡ ShapeDiffers)
+  pub wrong : (reason : Reason) → IsFirstReason old.tree old reason → (status ≡ No reason) ⊎ (status ≡ NoMemory)
+  pub differs : DiffersInShape T old → (status ≡ ShapeDiffers) ⊎ (status ≡ NoMemory)
+  pub revisable : IsRevisable T old → IsDoneOrGivenUp status
+  pub covered : IsRevisable T old → CoversRevision T old B → IsDone status
+
+-- the same of the sources' bytes
+abbrev pub IsRevisedToEnd : Option (List ℕ) → Option (List ℕ) → ℕ → Status → Type 0
+IsRevisedToEnd tree doc B status =
+    (b c : List ℕ) (T : TreeValue) (old : Document) → tree ≡ Some b → doc ≡ Some c → TreeOf b T → IsTextOf c old → EndsRevision T old B status
+
 -- Which statuses come where the command's inputs are in their grammars and no count rose. A budget that covers the stated tree is never given
 -- up, and one of the steady answer that is at least M is enough then.
 abbrev pub Completes : Words → View → Status → Type 0
@@ -182,6 +201,7 @@ Completes (Solve budget strip fold None) before status = (b : List ℕ) (T : Tre
 Completes (Verify place) before status =
     (IsDoneOrUncertified status ⊎ IsRefusal status)
     × ((b c : List ℕ) (T : TreeValue) (C : Certificate) → before.tree ≡ Some b → before.doc ≡ Some c → TreeOf b T → IsCertificateText c C → IsDoneOrUncertified status)
+Completes (Revise place budget) before status = IsRevisedToEnd before.tree before.doc budget status
 Completes w before status = status ≡ NotBuilt
 
 -- no count of faults rose

@@ -5,7 +5,7 @@ use Rattle.bp_tree.specs.declared.fault.TreeKind.TheVariants.{TooLong, BadJson, 
 use Rattle.bp_document.specs.declared.fault.DocKind.{DocKind}
 use Rattle.bp_document.specs.declared.fault.DocKind.TheVariants as doc
 use Rattle.bp_engine.specs.declared.status.Status.{Status}
-use Rattle.bp_engine.specs.declared.status.Status.TheVariants.{Done, TreeRefused, DocRefused, Usage, GaveUp, ReadFault, WriteFault, NoMemory, No, NoCertificate, NotBuilt, Unsteady}
+use Rattle.bp_engine.specs.declared.status.Status.TheVariants.{Done, TreeRefused, DocRefused, Usage, GaveUp, ReadFault, WriteFault, NoMemory, No, NoCertificate, NotBuilt, Unsteady, ShapeDiffers}
 
 abbrev pub kind_text : TreeKind → List ℕ
 kind_text TooLong = codes "TooLong"
@@ -45,6 +45,7 @@ text_of (No reason) = []
 text_of (NoCertificate reason) = []
 text_of NotBuilt = codes "not built\n"
 text_of (Unsteady budget) = codes "unsteady: budget " ++ decimal budget ++ 10 ∷ []
+text_of ShapeDiffers = codes "shape differs\n"
 
 -- the number that the program ends with
 abbrev pub number_of : Status → ℕ
@@ -60,6 +61,7 @@ number_of (No reason) = 7
 number_of (NoCertificate reason) = 7
 number_of NotBuilt = 8
 number_of (Unsteady budget) = 9
+number_of ShapeDiffers = 10
 
 -- the statuses that come behind something written
 abbrev pub MayWrite : Status → Type 0

@@ -11,6 +11,7 @@ use crate::design::{Asked, design};
 use crate::drawing::{Drawing, draw};
 use crate::making::make;
 use crate::pages::{HELP, VERSION, show};
+use crate::revising::revise_both;
 use crate::rewriting::rewrite;
 use crate::solve::solve;
 use crate::tell::tell;
@@ -36,7 +37,7 @@ pub fn run<R: Threads + Sync, T: Source, D: Source, K: Sink, F: Sink, E: Sink, G
     // Usage comes exactly where the words ask for nothing.
     ensures usage { (result ≡ Status.Usage) ↔ ((w : Words) → IsWords (map string_bytes words.now) w → ⊥) }
 
-    // With Usage, and where the command isn't built, nothing is read or written.
+    // With Usage, and where what is asked for isn't built, nothing is read or written.
     ensures silent { IsSilent result → (tree.new ≡ tree.old) × (doc.new ≡ doc.old) × (out.new ≡ out.old) × (fold.new ≡ fold.old) }
 
     // What the command has read and written, with which status, and what it leaves as it was.
@@ -125,7 +126,7 @@ fn do_asked<R: Threads + Sync, T: Source, D: Source, K: Sink, F: Sink, G: Gate +
         Words::Verify { .. } => verify_both(alloc, tree, doc, out),
         Words::Help => show(HELP, out),
         Words::Version => show(VERSION, out),
-        _ => Status::NotBuilt,
+        Words::Revise { budget, .. } => revise_both(alloc, budget, tree, doc, out),
     }
 }
 

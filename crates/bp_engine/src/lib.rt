@@ -13,6 +13,7 @@ mod making;
 mod outcome;
 mod pages;
 mod picturing;
+mod revising;
 mod rewriting;
 mod solve;
 mod status;

@@ -40,7 +40,7 @@ pub fn write_outcome<K: Sink, F: Sink>(
 }
 
 // The status of a document that is written whole.
-fn status_of(side: u64, bound: u64) -> Status
+pub fn status_of(side: u64, bound: u64) -> Status
     ensures done { side ≤ bound → result ≡ Status.Done }
     ensures gave_up { bound < side → result ≡ Status.GaveUp side bound }
     ensures ends { MayWrite result }

@@ -9,7 +9,7 @@ use bp_base::{Failed, Sink};
 use bp_text::put;
 
 /// The page of help.
-pub const HELP: &[u8; 2913] =
+pub const HELP: &[u8; 3290] =
     b"boxpleat: the smallest sheet for a box-pleated figure, with a proof that no smaller one will do
 
 A figure is a tree: a line for each edge, with the upper node's name, the lower node's name and the length.
@@ -31,6 +31,10 @@ boxpleat design [--budget B] [--strip W] [--fold FILE] [--workers N] [--replay S
                    finding it may examine Q paths, 1 to 10000000
 boxpleat check --tree FILE
     reads the tree from FILE and a design from standard input; writes yes with side and bound, or no with the reason
+boxpleat revise --tree FILE [--budget B]
+    reads the tree from FILE and a design of a tree with the same nodes and other lengths from standard input; keeps what still
+    holds of its proof, searches the rest, and writes a design of the tree
+    --budget B     as of design
 boxpleat contours
     reads a design or a certificate from standard input and writes the outlines of what each flap and river takes of the sheet
 boxpleat pieces
@@ -57,6 +61,7 @@ Statuses, with what stands on the error output:
     7  the answer is no; the reason stands on the output
     8  not built
     9  finding the steady placement would take more than its Q paths; nothing was written
+    10 the tree has other nodes, parents or names than the design that was read; nothing was written
 ";
 
 /// The name and the version.

@@ -30,6 +30,8 @@ pub enum Status {
     NotBuilt,
     /// The steady answer wants more than its budget, in paths that the searches under bounds may examine.
     Unsteady { budget: u64 },
+    /// The old document checks, but the tree has other nodes, parents or names than its own.
+    ShapeDiffers,
 }
 
 impl Status {
@@ -53,6 +55,7 @@ impl Status {
             Status::NoCertificate(_) => 7,
             Status::NotBuilt => 8,
             Status::Unsteady { .. } => 9,
+            Status::ShapeDiffers => 10,
         }
     }
 }

@@ -40,6 +40,7 @@ fn put_status<E: Sink>(err: &mut E, status: Status) -> Result<(), Failed>
         Status::NoCertificate(_) => put(err, b""),
         Status::NotBuilt => put(err, b"not built\n"),
         Status::Unsteady { budget } => put_unsteady(err, budget),
+        Status::ShapeDiffers => put(err, b"shape differs\n"),
     }
 }
 

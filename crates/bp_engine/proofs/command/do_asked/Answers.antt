@@ -1,6 +1,6 @@
 use Rattle.std.proofs.Common.{◌≡◌, None, ◌∙◌, subst, sym}
-use Rattle.bp_words.specs.declared.words.Words.TheVariants.{Design, Check, Contours, Help, Made, Picture, Pieces, Rewrite, Solve, Verify, Version, Trial}
-use Rattle.bp_engine.proofs.Doings.{check_does, contours_does, design_does, design_leaves, does_as, help_does, leaves_as, made_does, picture_does, pieces_does, rewrite_does, solve_does, solve_leaves, verify_does, version_does, trial_does, trial_leaves}
+use Rattle.bp_words.specs.declared.words.Words.TheVariants.{Design, Check, Contours, Help, Made, Picture, Pieces, Revise, Rewrite, Solve, Verify, Version, Trial}
+use Rattle.bp_engine.proofs.Doings.{check_does, contours_does, design_does, design_leaves, does_as, help_does, leaves_as, made_does, picture_does, pieces_does, revise_does, rewrite_does, solve_does, solve_leaves, verify_does, version_does, trial_does, trial_leaves}
 use Rattle.bp_engine.proofs.Outcomes.{outcome_loud}
 use Rattle.bp_engine.specs.Run.{IsSilent}
 use Rattle.bp_engine.proofs.command.do_asked.Goals as goal
@@ -14,6 +14,12 @@ pub returns-in-Verify-clause-does : goal.returns-in-Verify-clause-does
 returns-in-Verify-clause-does g c =
     let e = c.verify_both.ensures in
     does_as c.args.words (Verify c.in-Verify.tree) _ _ c.verify_both.result c.in-Verify.is (verify_does _ _ c.verify_both.result c.in-Verify.tree _ _ e.verifies e.read e.write)
+
+pub returns-in-Revise-clause-does : goal.returns-in-Revise-clause-does
+returns-in-Revise-clause-does g c =
+    let d = c.in-Revise in
+    let e = c.revise_both.ensures in
+    does_as c.args.words (Revise d.tree d.budget) _ _ c.revise_both.result d.is (revise_does _ _ c.revise_both.result d.tree d.budget _ _ e.revises e.complete e.read e.write)
 
 pub returns-in-Contours-clause-does : goal.returns-in-Contours-clause-does
 returns-in-Contours-clause-does g c =
