@@ -57,7 +57,8 @@ pub fn revise(alloc: Global, tree: &Tree, old: Document, budget: u64) -> Result<
     let nodes = (begun.records.len() + begun.left.len()) as u64;
     let room = (MOST_PROOF_LINES - nodes) / 4;
     let settled = search(alloc, &metric, begun, floor.side, budget.min(room))?;
-    document_of(alloc, &metric, settled, floor)
+    let document = document_of(alloc, &metric, settled, floor)?;
+    Ok(document)
 }
 
 // What is kept as a search on its way.

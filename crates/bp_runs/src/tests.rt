@@ -5,6 +5,7 @@ mod documents;
 mod drawings;
 mod pictures;
 mod replays;
+mod revisions;
 mod searches;
 mod solves;
 mod steady;
@@ -339,7 +340,7 @@ fn refusals(rt: HostRuntime) -> Result<(), Fail> {
         ("contours", "", 1, "", "document: line 1: Cut\n"),
         ("pieces", "", 1, "", "document: line 1: Cut\n"),
         ("rewrite", "", 1, "", "document: line 1: Cut\n"),
-        ("revise --tree f", "", 8, "", "not built\n"),
+        ("solve --mirror book", "", 8, "", "not built\n"),
     ];
     check(&rt, rt.alloc(), &rows)
 }

@@ -1,16 +1,5 @@
-use Rattle.std.proofs.Common.{◌≡◌, ◌≤◌, ℕ, ap, arith, length}
-use Rattle.std.specs.Prelude.{IfOk}
-use Rattle.std.proofs.lemmas.Result.{IfOk-weaker}
-use Rattle.bp_base.specs.declared.point.Placement.{Placement}
-use Rattle.bp_base.specs.declared.refutation.Refutation.{Refutation}
-use Rattle.bp_base.specs.Limits.{most_document_bytes}
-use Rattle.bp_metric.specs.Valid.{NoneBelow}
-use Rattle.bp_document.specs.declared.document.Document.{Document}
-use Rattle.bp_document.specs.Ranges.{IsDocument}
-use Rattle.bp_document.specs.Text.{doc_text}
-use Rattle.bp_check.specs.Written.{IsWanted}
+use Rattle.std.proofs.Common.{arith}
 use Rattle.bp_revise.specs.Course.{IsEnded, IsWrittenFrom}
-use Rattle.bp_revise.specs.Revised.{IsRevised}
 use Rattle.bp_revise.proofs.Revisions.{below_there, can_keep, can_search, ends, few_nodes, kept_there, points_each, revision, wanted_there}
 use Rattle.bp_revise.proofs.revising.revise.Goals as goal
 
@@ -54,14 +43,13 @@ returns c =
     let settled = c.in_ok-settled.settled in
     let ended : IsEnded M.tree M.sheet c.args.budget side start kept settled =
     ends M m T old is c.requires.checks c.requires.room c.requires.shape start kept c.in_ok-kept.ensures c.in_ok-start.ensures.small c.in_ok-begun.begun c.in_ok-begun.ensures.begun c.in_ok-begun.ensures.course c.in_ok-begun.ensures.none c.args.budget side c.min.result (omega (arith, c.min.ensures, c.len.ensures, c.len-2.ensures)) settled c.in_ok-settled.ensures.course c.in_ok-settled.ensures.end in
-    let Found : Document → Type 0 = λ D. (B : ℕ) (p : Placement) (r : Refutation) → IsEnded M.tree M.sheet B side p r settled → IsWrittenFrom M.tree M.sheet B p r D in
-    let each : (Q : Document → Type 0) → ((D : Document) → IsWrittenFrom M.tree M.sheet c.args.budget start kept D → Q D) → IfOk c.document_of.result Q =
-    λ Q f. IfOk-weaker c.document_of.result Found Q (λ D e. f D (e c.args.budget start kept ended)) c.document_of.ensures in
+    let D = c.in_ok-document.document in
+    let w : IsWrittenFrom M.tree M.sheet c.args.budget start kept D = c.in_ok-document.ensures c.args.budget start kept ended in
     record {
-      revised = each (IsRevised T old c.args.budget) (λ D w. revision M m T old is c.requires.checks c.requires.room c.requires.shape start kept c.in_ok-kept.ensures c.args.budget D c.in_ok-start.ensures.start w);
-      ranges = each IsDocument (λ D w. w.ranges);
-      short = each (λ D. length (doc_text D) ≤ most_document_bytes) (λ D w. c.law_of_checked_texts.ensures.short M.tree D w.ranges w.checks);
-      none_below = each (λ D. NoneBelow T old.sheet D.bound) (λ D w. below_there M m T old is c.requires.checks c.requires.room c.requires.shape D w.sheet (c.law_of_checks.ensures.none_below D w.sheet w.checks));
-      bound = each (λ D. D.bound ≤ D.side) (λ D w. c.law_of_checks.ensures.bound D w.sheet w.checks);
-      smallest = each (λ D. D.bound ≡ D.side → IsWanted T old.sheet D.side) (λ D w meets. wanted_there M m T old is c.requires.checks c.requires.room c.requires.shape D w.sheet (c.law_of_checks.ensures.wanted D w.sheet w.checks meets));
+      revised = revision M m T old is c.requires.checks c.requires.room c.requires.shape start kept c.in_ok-kept.ensures c.args.budget D c.in_ok-start.ensures.start w;
+      ranges = w.ranges;
+      short = c.law_of_checked_texts.ensures.short M.tree D w.ranges w.checks;
+      none_below = below_there M m T old is c.requires.checks c.requires.room c.requires.shape D w.sheet (c.law_of_checks.ensures.none_below D w.sheet w.checks);
+      bound = c.law_of_checks.ensures.bound D w.sheet w.checks;
+      smallest = λ meets. wanted_there M m T old is c.requires.checks c.requires.room c.requires.shape D w.sheet (c.law_of_checks.ensures.wanted D w.sheet w.checks meets);
     }
