@@ -16,6 +16,7 @@ cd "$folder" || exit 2
 cp "$here"/examples/*.tree .
 "$program" design <star_2_2_2_1_1.tree >star.design
 "$program" design <two_twigs.tree >twigs.design
+sed 's/r 2/r 3/' star_2_2_2_1_1.tree >longer.tree
 "$program" solve <star_2_2_2_1_1.tree >star.cert
 faults=0 runs=0 refusals=0
 
@@ -65,6 +66,8 @@ row yes star_2_2_2_1_1.tree design --replay 1 --workers 4 --fold drawing
 row no star_2_2_2_1_1.tree design --budget 1
 row yes star_2_2_2_1_1.tree design --workers 1 --strip 4
 row yes star.design check --tree star_2_2_2_1_1.tree
+row yes star.design revise --tree star_2_2_2_1_1.tree
+row yes star.design revise --tree longer.tree
 row yes star.design rewrite
 row yes twigs.design contours
 row yes twigs.design pieces
