@@ -1,6 +1,6 @@
 -- Which paths a search has examined: different ones, each below the path that it began with.
 use Rattle.std.proofs.Common.{◌≡◌, ◌≢◌, inl, inr, ℕ, zero, suc, ◌+◌, ◌<◌, List, [], ◌∷◌, ◌++◌, length, get_or, sym, ◌∙◌, ap, subst, append_assoc, length-append, arith}
-use Rattle.std.specs.List.{All, AllPairs}
+use Rattle.std.specs.List.{AllPairs}
 use Rattle.std.proofs.lemmas.List.{append-nil}
 use Rattle.std.proofs.lemmas.List.Elements.{All-cons, All-append}
 use Rattle.std.proofs.lemmas.List.Kept.{AllPairs-cons}
@@ -10,6 +10,7 @@ use Rattle.bp_base.specs.declared.path.Step.{Step}
 use Rattle.bp_base.specs.Tree.{TreeValue}
 use Rattle.bp_steady.specs.Bounds.{BoundsValue, IsInTree}
 use Rattle.bp_steady.specs.Searching.{AreBehind, AreUnder, BeginsWith, IsAnswered, NoPlacing, choice_at}
+use Rattle.bp_steady.specs.Stack.{AreTried, IsTrying, child_at, step_at}
 use Rattle.bp_steady.specs.Sums.{AreInTree}
 use Rattle.bp_steady.specs.declared.searching.Answer.{Answer}
 use Rattle.bp_steady.specs.declared.searching.Answer.TheVariants.{Yes, No, Spent}
@@ -80,30 +81,13 @@ module _ (T : TreeValue) (b : BoundsValue) where
 
   -- The four children of a path.
   module _ (path : Path) (pair : Pair) where
-    abbrev pub step_at : ℕ → Step
-    step_at k = record { pair = pair; choice = choice_at k }
-
-    abbrev pub child_at : ℕ → Path
-    child_at k = path ++ step_at k ∷ []
-
-    -- the paths below the first k children
-    pub record AreTried (k : ℕ) (paths : List Path) : Type 0 where
-      pub in_tree : AreInTree T b paths
-      pub begin : All (λ q. (j : ℕ) × (j < k) × BeginsWith (child_at j) q) paths
-
-    -- after k children so many are tried, and none of these has a placement
-    pub record IsTrying (before left k : ℕ) : Type 0 where
-      pub paths : List Path
-      pub tried : AreTried k paths
-      pub count : length paths + left ≡ before
-      pub none : (j : ℕ) → j < k → NoPlacing T b (child_at j)
-
-    pub trying_none : (before left : ℕ) → left ≡ before → IsTrying before left 0
-    trying_none before left same = record {
+    -- nothing is tried, and none before child k has a placement
+    pub trying_from : (before left k : ℕ) → left ≡ before → ((j : ℕ) → j < k → NoPlacing T b (child_at path pair j)) → IsTrying T b path pair before left k
+    trying_from before left k same none = record {
       paths = [];
-      tried = record { in_tree = no_paths; begin = λ k d less. absurd (omega (arith, less)) };
+      tried = record { in_tree = no_paths; begin = λ i d less. absurd (omega (arith, less)) };
       count = omega (arith, same);
-      none = λ j less. absurd (omega (arith, less));
+      none = none;
     }
 
     apart : (j k : ℕ) → j < k → k < 4 → choice_at j ≡ choice_at k → ⊥
@@ -119,32 +103,32 @@ module _ (T : TreeValue) (b : BoundsValue) where
     apart (suc (suc zero)) (suc zero) less few e = absurd (omega (arith, less))
     apart (suc (suc zero)) (suc (suc zero)) less few e = absurd (omega (arith, less))
 
-    tried_more : (k : ℕ) (paths more : List Path) → k < 4 → AreTried k paths → AreUnder T b (child_at k) more → AreTried (k + 1) (paths ++ more)
+    tried_more : (k : ℕ) (paths more : List Path) → k < 4 → AreTried T b path pair k paths → AreUnder T b (child_at path pair k) more → AreTried T b path pair (k + 1) (paths ++ more)
     tried_more k paths more few tried under = record {
       in_tree = record {
         each = All-append (IsInTree T b) paths more tried.in_tree.each under.in_tree.each;
         differ = differ_both paths more tried.in_tree.differ under.in_tree.differ (λ i j d i_less j_less same. cross (get_or paths i d) (get_or more j d) same (tried.begin i d i_less) (under.begin j d j_less));
       };
-      begin = All-append (λ q. (j : ℕ) × (j < k + 1) × BeginsWith (child_at j) q) paths more
+      begin = All-append (λ q. (j : ℕ) × (j < k + 1) × BeginsWith (child_at path pair j) q) paths more
           (λ i d less. let t = tried.begin i d less in (t.0, omega (arith, t.1), t.2))
           (λ i d less. (k, omega arith, under.begin i d less));
     }
       where
-        cross : (p q : Path) → p ≡ q → (j : ℕ) × (j < k) × BeginsWith (child_at j) p → BeginsWith (child_at k) q → ⊥
+        cross : (p q : Path) → p ≡ q → (j : ℕ) × (j < k) × BeginsWith (child_at path pair j) p → BeginsWith (child_at path pair k) q → ⊥
         cross p q same (j, less, (r, e)) (s, f) =
-            let steps : step_at j ≡ step_at k = same_after path (step_at j) (step_at k) r s (sym e ∙ same ∙ f) in
+            let steps : step_at pair j ≡ step_at pair k = same_after path (step_at pair j) (step_at pair k) r s (sym e ∙ same ∙ f) in
             apart j k less few (ap (λ (t : Step). t.choice) steps)
 
-    tried_behind : (k : ℕ) (paths : List Path) → AreTried k paths → AreBehind T b path paths
+    tried_behind : (k : ℕ) (paths : List Path) → AreTried T b path pair k paths → AreBehind T b path paths
     tried_behind k paths tried = record {
       under = record {
         in_tree = tried.in_tree;
-        begin = λ i d less. let t = tried.begin i d less in begins_less path (step_at t.0 ∷ []) (get_or paths i d) t.2;
+        begin = λ i d less. let t = tried.begin i d less in begins_less path (step_at pair t.0 ∷ []) (get_or paths i d) t.2;
       };
-      longer = λ i d less. let t = tried.begin i d less in longer_by path (step_at t.0) (get_or paths i d) t.2;
+      longer = λ i d less. let t = tried.begin i d less in longer_by path (step_at pair t.0) (get_or paths i d) t.2;
     }
 
-    pub trying_more : (before left after k : ℕ) → k < 4 → IsTrying before left k → IsAnswered (AreUnder T b (child_at k)) T b (child_at k) left after No → IsTrying before after (k + 1)
+    pub trying_more : (before left after k : ℕ) → k < 4 → IsTrying T b path pair before left k → IsAnswered (AreUnder T b (child_at path pair k)) T b (child_at path pair k) left after No → IsTrying T b path pair before after (k + 1)
     trying_more before left after k few is answer = record {
       paths = is.paths ++ answer.1.0;
       tried = tried_more k is.paths answer.1.0 few is.tried answer.1.1;
@@ -153,17 +137,17 @@ module _ (T : TreeValue) (b : BoundsValue) where
         | inl below ↦ is.none j below
         | inr above ↦
             let same : k ≡ j = omega (arith, less, above) in
-            subst (λ (m : ℕ). NoPlacing T b (child_at m)) same answer.0
+            subst (λ (m : ℕ). NoPlacing T b (child_at path pair m)) same answer.0
       ];
     }
 
-    pub trying_yes : (before left after k : ℕ) → k < 4 → IsTrying before left k → IsAnswered (AreUnder T b (child_at k)) T b (child_at k) left after Yes → IsAnswered (AreBehind T b path) T b path before after Yes
+    pub trying_yes : (before left after k : ℕ) → k < 4 → IsTrying T b path pair before left k → IsAnswered (AreUnder T b (child_at path pair k)) T b (child_at path pair k) left after Yes → IsAnswered (AreBehind T b path) T b path before after Yes
     trying_yes before left after k few is answer =
         (answer.0, (is.paths ++ answer.1.0, tried_behind (k + 1) _ (tried_more k is.paths answer.1.0 few is.tried answer.1.1), omega (arith, length-append is.paths answer.1.0, is.count, answer.1.2)))
 
-    pub trying_spent : (before left after k : ℕ) → k < 4 → IsTrying before left k → IsAnswered (AreUnder T b (child_at k)) T b (child_at k) left after Spent → IsAnswered (AreBehind T b path) T b path before after Spent
+    pub trying_spent : (before left after k : ℕ) → k < 4 → IsTrying T b path pair before left k → IsAnswered (AreUnder T b (child_at path pair k)) T b (child_at path pair k) left after Spent → IsAnswered (AreBehind T b path) T b path before after Spent
     trying_spent before left after k few is answer =
         (is.paths ++ answer.0, tried_behind (k + 1) _ (tried_more k is.paths answer.0 few is.tried answer.1), omega (arith, length-append is.paths answer.0, is.count, answer.2))
 
-    pub trying_all : (before left : ℕ) → IsTrying before left 4 → NoPlacing T b path → IsAnswered (AreBehind T b path) T b path before left No
+    pub trying_all : (before left : ℕ) → IsTrying T b path pair before left 4 → NoPlacing T b path → IsAnswered (AreBehind T b path) T b path before left No
     trying_all before left is none = (none, (is.paths, tried_behind 4 is.paths is.tried, is.count))

@@ -3,6 +3,7 @@ mod Blows
 mod Children
 mod Coords
 mod Counted
+mod Guides
 mod Looking
 mod Placed
 mod Pulling

@@ -16,7 +16,7 @@ use Rattle.bp_steady.specs.Searching.{AreBounds, AreUnder, HasPlacing, IsAnswere
 use Rattle.bp_steady.specs.Sums.{AreInTree, HavePaths, IsMAtLeast}
 use Rattle.bp_steady.specs.declared.searching.Answer.TheVariants.{Yes, No, Spent}
 use Rattle.bp_steady.proofs.Coords.{ends_each, ends_small, same_points}
-use Rattle.bp_steady.proofs.Questioned.{are_bounds, below_ends, each_coordinate, has_placing_most, high_here, no_placing_more}
+use Rattle.bp_steady.proofs.Questioned.{are_bounds, below_ends, each_coordinate, has_placing_most, high_here, low_after, no_placing_more}
 use Rattle.bp_steady.proofs.Summed.{asked_lower, asked_upper, drop_one, fixed_high, fixed_low, have_both, have_first, have_none, set_question}
 
 module _ (T : TreeValue) (G : Sheet) (S : ℕ) (P : List Point) (c : ℕ) where
@@ -92,6 +92,11 @@ module _ (T : TreeValue) (G : Sheet) (S : ℕ) (P : List Point) (c : ℕ) where
       omega (arith, ap (λ (q : BoundsValue). length q.low) is.1.1, question_low is.1.0),
       omega (arith, ap (λ (q : BoundsValue). length q.high) is.1.1, question_high is.1.0),
     )
+
+    -- the low number is no more than what is found
+    pub found_low : (before left v : ℕ) (new : BoundsValue) → IsFound T G S P c before left new (Some v) → get_or new.low c 0 ≤ v
+    found_low before left v new is =
+        omega (arith, ap (λ (q : BoundsValue). get_or q.low c 0) is.1.1, low_after a e c is.1.0 (each_coordinate T G S P steady) within_e c (omega arith))
 
     -- the bounds of the next question
     pub next_bounds : (before left : ℕ) (b new : BoundsValue) (l h v : ℕ) → IsLooking before left b l h → new ≡ record { low = b.low; high = set b.high c v } → new ≡ question a e c v

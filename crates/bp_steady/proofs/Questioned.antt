@@ -37,7 +37,7 @@ module _ (a e : List ℕ) (c v : ℕ) (same : length a ≡ length e) (within : c
   low_before k less =
       get_or_append_left (take c a) (replicate (length e - c) 0) 0 k (omega (arith, less, taken)) ∙ get_or-take c a k 0 less
 
-  low_after : (k : ℕ) → c ≤ k → get_or q.low k 0 ≡ 0
+  pub low_after : (k : ℕ) → c ≤ k → get_or q.low k 0 ≡ 0
   low_after k past =
       let at : length (take c a) + (k - c) ≡ k = omega (arith, past, taken) in
       ap (λ (m : ℕ). get_or q.low m 0) (sym at) ∙ get_or-append-add (take c a) (replicate (length e - c) 0) (k - c) 0 ∙ zeros (length e - c) (k - c)

@@ -4,7 +4,6 @@ use Rattle.bp_base.specs.declared.point.Point.{Point}
 use Rattle.bp_base.specs.declared.point.Sheet.TheVariants.{Square, Strip}
 use Rattle.bp_base.specs.Tree.{TreeValue}
 use Rattle.bp_metric.specs.Samples.{sample}
-use Rattle.bp_steady.specs.Bounds.{BoundsValue}
 use Rattle.bp_steady.specs.Questions.{asked, coordinates, ends, question, questions}
 
 abbrev two : TreeValue

@@ -1,5 +1,5 @@
 // The steady list, coordinate by coordinate.
-ghost use Rattle.std.specs.Prelude.{◌≡◌, ◌<◌, ◌≤◌, ◌*◌, [], List, length, IfOk};
+ghost use Rattle.std.specs.Prelude.{◌≡◌, ◌<◌, ◌≤◌, ◌*◌, List, length, IfOk, IfSome};
 ghost use Rattle.bp_base.specs.declared.point.Point.{Point as AnyPoint};
 ghost use Rattle.bp_base.specs.Limits.{most_number};
 ghost use Rattle.bp_base.specs.Tree.{leaf_count};
@@ -7,10 +7,12 @@ ghost use Rattle.bp_metric.specs.Steady.{IsSteady};
 ghost use Rattle.bp_metric.specs.Valid.{Valid};
 ghost use Rattle.bp_steady.specs.Questions.{coordinates};
 ghost use Rattle.bp_steady.specs.Searching.{IsFound, IsSteadied, StandsAt};
+ghost use Rattle.bp_steady.specs.Stack.{IsGuide, IsGuided};
 
 use crate::bounds::Bounds;
+use crate::path::Path;
 use crate::searching::{Answer, ask};
-use bp_base::{MOST_STEPS, NoMemory, Point, Sequence, Step};
+use bp_base::{NoMemory, Point, Sequence};
 use bp_metric::Metric;
 use bp_pairs::has_steady;
 use std::alloc::Global;
@@ -37,10 +39,10 @@ pub fn steady(
 {
     has_steady(metric);
     let mut bounds = Bounds::whole(alloc, metric, side)?;
-    let mut steps = Vec::with_capacity(alloc, MOST_STEPS as usize)?;
+    let mut path = Path::new(alloc)?;
     let mut left = budget;
     for at in 0..2 * metric.leaves() as usize {
-        match least_at(metric, &mut bounds, &mut steps, side, at, &mut left)? {
+        match least_at(metric, &mut bounds, &mut path, side, at, &mut left)? {
             Some(least) => bounds.fix(at, least),
             None => return Ok(Steadied::Spent),
         }
@@ -52,7 +54,7 @@ pub fn steady(
 fn least_at(
     metric: &Metric,
     bounds: &mut Bounds,
-    steps: &mut Vec<Step>,
+    path: &mut Path,
     _side: u64,
     at: usize,
     left: &mut u64,
@@ -60,8 +62,8 @@ fn least_at(
     requires side { _side ≤ most_number }
     requires at { at < 2 * leaf_count metric.now.tree }
     requires stands { (P : List AnyPoint) × IsSteady metric.now.tree metric.now.sheet _side P × StandsAt metric.now.tree metric.now.sheet _side P at bounds.old }
-    requires empty { steps.old.items ≡ [] }
-    ensures empty { IfOk result (λ found. steps.new.items ≡ []) }
+    requires guide { IsGuide metric.now.tree bounds.old path.old.guide.items }
+    ensures guide { IfOk result (λ found. IfSome found (λ least. IsGuided metric.now.tree bounds.new at least path.new.guide.items)) }
     ensures found { IfOk result (λ found. (P : List AnyPoint) → IsSteady metric.now.tree metric.now.sheet _side P → StandsAt metric.now.tree metric.now.sheet _side P at bounds.old → IsFound metric.now.tree metric.now.sheet _side P at left.old left.new bounds.new found) }
 {
     let _leaves = metric.leaves();
@@ -70,7 +72,7 @@ fn least_at(
     while low < high {
         let middle = (low + high) / 2;
         bounds.set_high(at, middle);
-        match ask(metric, bounds, steps, left)? {
+        match ask(metric, bounds, path, left)? {
             Answer::Yes => high = middle,
             Answer::No => low = middle + 1,
             Answer::Spent => return Ok(None),

@@ -5,6 +5,7 @@ mod answering;
 mod bounds;
 mod orders;
 mod pairs;
+mod path;
 mod rising;
 mod searching;
 #[cfg(test)]

@@ -1,15 +1,16 @@
 // The search under bounds: is there a valid placement whose coordinates keep to them?
-ghost use Rattle.std.specs.Prelude.{◌≡◌, ◌+◌, ◌*◌, ◌<◌, ◌≤◌, ◌++◌, ◌∷◌, [], ℕ, IfOk, length, slice_index};
-ghost use Rattle.bp_base.specs.Path.{IsPairOf};
+ghost use Rattle.std.specs.Prelude.{◌≡◌, ◌<◌, ◌*◌, [], List, IfOk, IsTrue, length, slice_index};
 ghost use Rattle.bp_base.specs.Tree.{leaf_count};
 ghost use Rattle.bp_metric.specs.Chains.{HasPairsOf};
-ghost use Rattle.bp_steady.specs.Bounds.{IsInTree};
-ghost use Rattle.bp_steady.specs.Searching.{AreBehind, AreBounds, AreUnder, IsAnswered, IsRow, choice_at};
+ghost use Rattle.bp_steady.specs.Searching.{AreBounds, AreUnder, IsAnswered, IsRising, IsRow};
+ghost use Rattle.bp_steady.specs.Stack.{IsGuide, IsKept, IsLed, IsOpen, IsWalked};
+ghost use Rattle.bp_steady.specs.declared.searching.Walked.TheVariants.{Reached};
 
 use crate::bounds::Bounds;
 use crate::pairs::farthest;
+use crate::path::Path;
 use crate::rising::raise;
-use bp_base::{Choice, NoMemory, Pair, Step};
+use bp_base::NoMemory;
 use bp_metric::Metric;
 
 // Whether there is such a placement, or Spent where the budget doesn't reach.
@@ -20,25 +21,44 @@ pub enum Answer {
     Spent,
 }
 
+// Reached: the path has a row. Closed: no path is left.
+#[derive(Clone, Copy)]
+pub enum Walked {
+    Reached,
+    Closed,
+    Spent,
+}
+
 // Examines the empty path, and what is below it. Each path examined takes one from what is left of the budget.
 pub fn ask(
     metric: &Metric,
     bounds: &Bounds,
-    steps: &mut Vec<Step>,
+    path: &mut Path,
     left: &mut u64,
 ) -> Result<Answer, NoMemory>
     requires bounds { AreBounds metric.now.tree bounds.now }
-    requires empty { steps.old.items ≡ [] }
-    ensures empty { IfOk result (λ answer. steps.new.items ≡ []) }
+    requires guide { IsGuide metric.now.tree bounds.now path.old.guide.items }
+    ensures guide { IfOk result (IsKept metric.now.tree bounds.now path.old.guide.items path.new.guide.items) }
     ensures answer { IfOk result (IsAnswered (AreUnder metric.now.tree bounds.now []) metric.now.tree bounds.now [] left.old left.new) }
 {
-    if *left == 0 {
+    let budget = *left;
+    if budget == 0 {
         return Ok(Answer::Spent);
     }
     *left -= 1;
-    let row = lows(metric, bounds);
-    let answer = search(metric, bounds, steps, &row, left)?;
-    Ok(answer)
+    let _leaves = metric.leaves();
+    path.clear();
+    let mut row = lows(metric, bounds);
+    while let Some(pair) = farthest(metric, &row) {
+        path.push(pair, &row)?;
+        match walk(metric, bounds, path, &mut row, left, budget) {
+            Walked::Reached => {}
+            Walked::Closed => return Ok(Answer::No),
+            Walked::Spent => return Ok(Answer::Spent),
+        }
+    }
+    path.keep();
+    Ok(Answer::Yes)
 }
 
 // The row of the empty path.
@@ -53,78 +73,36 @@ fn lows(metric: &Metric, bounds: &Bounds) -> [u64; 64]
     row
 }
 
-// Examines what is below the path of these steps, which was examined itself, and whose row of least coordinates this is.
-#[cycle(search)]
-fn search(
+// Examines the path, whose row is raised from that before its last step, and, as long as the path has no row, the next one.
+fn walk(
     metric: &Metric,
     bounds: &Bounds,
-    steps: &mut Vec<Step>,
-    row: &[u64; 64],
+    path: &mut Path,
+    row: &mut [u64; 64],
     left: &mut u64,
-) -> Result<Answer, NoMemory>
+    _budget: u64,
+) -> Walked
     requires bounds { AreBounds metric.now.tree bounds.now }
-    requires pairs { HasPairsOf (leaf_count metric.now.tree) steps.old.items }
-    requires in_tree { IsInTree metric.now.tree bounds.now steps.old.items }
-    requires row { IsRow metric.now.tree steps.old.items bounds.now row.now }
-    ensures steps { IfOk result (λ answer. steps.new.items ≡ steps.old.items) }
-    ensures answer { IfOk result (IsAnswered (AreBehind metric.now.tree bounds.now steps.old.items) metric.now.tree bounds.now steps.old.items left.old left.new) }
+    requires opened { IsOpen metric.now.tree bounds.now _budget path.old.steps.items path.old.rows.items left.old }
+    requires led { IsLed path.old.led path.old.steps.items path.old.guide.items }
+    requires rising { IsRising metric.now.tree path.old.steps.items bounds.now row.old }
+    ensures led { IsLed path.new.led path.new.steps.items path.new.guide.items }
+    ensures guide { path.new.guide.items ≡ path.old.guide.items }
+    ensures fewer { result ≡ Reached → left.new < left.old }
+    ensures walked { IsWalked metric.now.tree bounds.now _budget path.new.steps.items path.new.rows.items row.new left.new result }
 {
     let _leaves = metric.leaves();
-    let pair = match farthest(metric, row) {
-        Some(pair) => pair,
-        None => return Ok(Answer::Yes),
-    };
-    for k in 0..4 {
-        match child(metric, bounds, steps, row, pair, choice(k), left)? {
-            Answer::No => {}
-            answer => return Ok(answer),
+    loop {
+        if *left == 0 {
+            return Walked::Spent;
         }
+        *left -= 1;
+        if raise(metric, bounds, &path.steps, row) {
+            return Walked::Reached;
+        }
+        if !path.turn() {
+            return Walked::Closed;
+        }
+        *row = path.last_row();
     }
-    Ok(Answer::No)
-}
-
-fn choice(k: u64) -> Choice
-    requires { k < 4 }
-    ensures { result ≡ choice_at k }
-{
-    match k {
-        0 => Choice::Left,
-        1 => Choice::Right,
-        2 => Choice::Below,
-        _ => Choice::Above,
-    }
-}
-
-// Examines the path with one more step, and what is below it.
-#[cycle(search)]
-fn child(
-    metric: &Metric,
-    bounds: &Bounds,
-    steps: &mut Vec<Step>,
-    row: &[u64; 64],
-    pair: Pair,
-    choice: Choice,
-    left: &mut u64,
-) -> Result<Answer, NoMemory>
-    requires bounds { AreBounds metric.now.tree bounds.now }
-    requires pairs { HasPairsOf (leaf_count metric.now.tree) steps.old.items }
-    requires pair { IsPairOf (leaf_count metric.now.tree) pair }
-    requires in_tree { IsInTree metric.now.tree bounds.now (steps.old.items ++ (record { pair = pair; choice = choice }) ∷ []) }
-    requires row { IsRow metric.now.tree steps.old.items bounds.now row.now }
-    ensures steps { IfOk result (λ answer. steps.new.items ≡ steps.old.items) }
-    ensures answer { IfOk result (IsAnswered (AreUnder metric.now.tree bounds.now (steps.old.items ++ (record { pair = pair; choice = choice }) ∷ [])) metric.now.tree bounds.now (steps.old.items ++ (record { pair = pair; choice = choice }) ∷ []) left.old left.new) }
-{
-    if *left == 0 {
-        return Ok(Answer::Spent);
-    }
-    *left -= 1;
-    let _leaves = metric.leaves();
-    steps.push(Step { pair, choice })?;
-    let mut higher = *row;
-    let mut answer = Answer::No;
-    if raise(metric, bounds, steps, &mut higher) {
-        answer = search(metric, bounds, steps, &higher, left)?;
-    }
-    let _step = steps.pop();
-    Ok(answer)
 }

@@ -1,7 +1,8 @@
-use Rattle.std.proofs.Common.{◌≡◌, ◌-◌, [], List}
+use Rattle.std.proofs.Common.{◌-◌, List}
 use Rattle.bp_base.specs.declared.point.Point.{Point}
 use Rattle.bp_metric.specs.Steady.{IsSteady}
 use Rattle.bp_steady.specs.Searching.{StandsAt}
+use Rattle.bp_steady.specs.Stack.{IsGuided}
 use Rattle.bp_steady.proofs.Looking.{IsLooking}
 use Rattle.bp_steady.proofs.answering.least_at.Given as goal
 
@@ -10,7 +11,7 @@ decreases-loop-low l = l.high - l.low
 
 abbrev pub invariant-loop-low : goal.invariant-loop-low
 invariant-loop-low l = record {
-  steps : l.steps.items ≡ [];
+  guided : IsGuided l.metric.tree l.bounds l.fn.at l.high l.path.guide.items;
   looking :
       (P : List Point)
       → IsSteady l.metric.tree l.metric.sheet l.fn._side P

@@ -1,13 +1,17 @@
-use Rattle.std.proofs.Common.{Some, subst, arith}
+use Rattle.std.proofs.Common.{ℕ, Option, Some, sym, subst, arith}
+use Rattle.std.specs.Prelude.{IfSome}
 use Rattle.bp_steady.specs.Searching.{IsFound}
-use Rattle.bp_steady.proofs.Looking.{going_start, going_more, going_spent, going_each, going_done, found_room}
+use Rattle.bp_steady.specs.Stack.{IsGuide, IsGuided}
+use Rattle.bp_steady.specs.Stack.IsGuide.{start}
+use Rattle.bp_steady.proofs.Guides.{guided_fixed}
+use Rattle.bp_steady.proofs.Looking.{found_low, going_start, going_more, going_spent, going_each, going_done, found_room}
 use Rattle.bp_steady.proofs.answering.steady.Goals as goal
 
 pub loop-at-init : goal.loop-at-init
 loop-at-init c =
     let q = c.has_steady.ensures c.args.side c.args._points.now c.requires.valid in
     record {
-      steps = c.in_ok-steps.ensures.items;
+      guide = subst (IsGuide c.args.metric.now.tree c.in_ok-bounds.bounds) (sym c.in_ok-path.ensures) start;
       going = going_start c.args.metric.now.tree c.args.metric.now.sheet c.args.side c.args.budget c.in_ok-bounds.bounds q.0 q.1 c.in_ok-bounds.ensures.low c.in_ok-bounds.ensures.high;
     }
 
@@ -18,7 +22,7 @@ least_at-requires c =
       side = c.requires.side;
       at = omega (arith, c.loop-at-test.true, c.leaves.ensures.count);
       stands = (g.P, g.steady, g.stands);
-      empty = c.loop-at.invariant.steps;
+      guide = c.loop-at.invariant.guide;
     }
 
 pub fix-requires : goal.fix-requires
@@ -32,11 +36,16 @@ fix-requires c =
 pub loop-at-preserved : goal.loop-at-preserved
 loop-at-preserved c =
     let g = c.loop-at.invariant.going in
+    let is : IsFound c.args.metric.now.tree c.args.metric.now.sheet c.args.side g.P c.loop-at.at c.loop-at.left c.least_at.new.left c.least_at.new.bounds (Some c.in-Some.least) =
+    subst (IsFound c.args.metric.now.tree c.args.metric.now.sheet c.args.side g.P c.loop-at.at c.loop-at.left c.least_at.new.left c.least_at.new.bounds) c.in-Some.is (c.in_ok-least.ensures.found g.P g.steady g.stands) in
+    let both = found_room c.args.metric.now.tree c.args.metric.now.sheet c.args.side g.P c.loop-at.at g.steady (omega (arith, c.loop-at-test.true, c.leaves.ensures.count)) c.loop-at.left c.least_at.new.left c.in-Some.least c.least_at.new.bounds is in
     record {
-      steps = c.in_ok-least.ensures.empty;
-      going = going_more c.args.metric.now.tree c.args.metric.now.sheet c.args.side c.args.budget c.loop-at.at c.loop-at.left c.least_at.new.left c.loop-at.bounds g (omega (arith, c.loop-at-test.true, c.leaves.ensures.count)) c.in-Some.least c.least_at.new.bounds c.fix.new.self
-          (subst (IsFound c.args.metric.now.tree c.args.metric.now.sheet c.args.side g.P c.loop-at.at c.loop-at.left c.least_at.new.left c.least_at.new.bounds) c.in-Some.is (c.in_ok-least.ensures.found g.P g.steady g.stands))
+      guide = guided_fixed c.args.metric.now.tree c.loop-at.at c.least_at.new.bounds c.fix.new.self c.in-Some.least c.least_at.new.path.guide.items
+          (subst (λ (o : Option ℕ). IfSome o (λ least. IsGuided c.args.metric.now.tree c.least_at.new.bounds c.loop-at.at least c.least_at.new.path.guide.items)) c.in-Some.is c.in_ok-least.ensures.guide)
+          both.0 both.1
+          (found_low c.args.metric.now.tree c.args.metric.now.sheet c.args.side g.P c.loop-at.at g.steady (omega (arith, c.loop-at-test.true, c.leaves.ensures.count)) c.loop-at.left c.least_at.new.left c.in-Some.least c.least_at.new.bounds is)
           c.fix.ensures;
+      going = going_more c.args.metric.now.tree c.args.metric.now.sheet c.args.side c.args.budget c.loop-at.at c.loop-at.left c.least_at.new.left c.loop-at.bounds g (omega (arith, c.loop-at-test.true, c.leaves.ensures.count)) c.in-Some.least c.least_at.new.bounds c.fix.new.self is c.fix.ensures;
     }
 
 pub returns-in-None : goal.returns-in-None
