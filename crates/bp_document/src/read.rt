@@ -30,7 +30,11 @@ pub fn read_document(alloc: Global, bytes: &[u8]) -> Result<Document, ReadDoc>
     let mut builder = Builder::new(alloc);
     match read_lines(alloc, &mut scanner, &mut builder, bytes) {
         Ok(()) => end_document(scanner, builder),
-        Err(error) => Err(error),
+        Err(error) => {
+            // Dropped by a call: the proof of a drop in place goes through all that a scanner holds, branch by branch.
+            drop(scanner);
+            Err(error)
+        }
     }
 }
 

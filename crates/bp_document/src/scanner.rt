@@ -69,12 +69,13 @@ impl Scanner {
         let stage = mem::replace(&mut self.stage, Stage::Broken { told: None });
         match take_line(self.alloc, stage, line, ended) {
             Ok(step) => {
-                self.stage = step.stage;
+                // Dropped by a call: the proof of a drop in place goes through all that a stage holds, branch by branch.
+                drop(mem::replace(&mut self.stage, step.stage));
                 self.lines = number;
                 Ok(step.node)
             }
             Err(fall) => {
-                self.stage = Stage::Broken { told: fall.head };
+                drop(mem::replace(&mut self.stage, Stage::Broken { told: fall.head }));
                 Err(DocFault {
                     line: number,
                     kind: fall.kind,
@@ -117,10 +118,14 @@ impl Scanner {
     {
         match self.stage {
             Stage::Behind { head } => Ok(head),
-            _ => Err(DocFault {
-                line: self.lines + 1,
-                kind: DocKind::Cut,
-            }),
+            stage => {
+                // Dropped by a call, for the proof's sake as in `feed`.
+                drop(stage);
+                Err(DocFault {
+                    line: self.lines + 1,
+                    kind: DocKind::Cut,
+                })
+            }
         }
     }
 }

@@ -1,5 +1,6 @@
 // What a line does at any stage.
-ghost use Rattle.std.specs.Prelude.{◌≡◌};
+ghost use Rattle.std.specs.Prelude.{◌≡◌, None};
+ghost use Rattle.bp_document.specs.declared.fault.DocKind.TheVariants.{Cut};
 ghost use Rattle.bp_document.specs.Stages.{Cuts, IsPlain, Steps};
 
 use crate::body_step::{feed_bound, feed_proof, feed_side};
@@ -56,15 +57,23 @@ fn cut(stage: Stage) -> Fall
         Stage::Behind { head } => fall(Some(head), DocKind::Trailing),
         Stage::Broken { told } => fall(told, DocKind::Trailing),
         Stage::Nodes { head, .. } => fall(Some(head), DocKind::Cut),
-        Stage::Version { .. } => fall(None, DocKind::Cut),
-        Stage::Sheet { .. } => fall(None, DocKind::Cut),
-        Stage::Edges { .. } => fall(None, DocKind::Cut),
-        Stage::Edge { .. } => fall(None, DocKind::Cut),
-        Stage::Side { .. } => fall(None, DocKind::Cut),
-        Stage::Bound { .. } => fall(None, DocKind::Cut),
-        Stage::Points { .. } => fall(None, DocKind::Cut),
-        Stage::Proof { .. } => fall(None, DocKind::Cut),
+        Stage::Version { memory } => untold(memory),
+        Stage::Sheet { memory } => untold(memory),
+        Stage::Edges { memory, .. } => untold(memory),
+        Stage::Edge { memory, .. } => untold(memory),
+        Stage::Side { parts } => untold(parts),
+        Stage::Bound { parts } => untold(parts),
+        Stage::Points { parts } => untold(parts),
+        Stage::Proof { parts, .. } => untold(parts),
     }
+}
+
+// The same where no head is told. What the stage holds is dropped by the call: the proof of drops in place goes through all of it, stage
+// by stage.
+fn untold<T: Drop>(_held: T) -> Fall
+    ensures { result ≡ record { head = None; kind = Cut } }
+{
+    fall(None, DocKind::Cut)
 }
 
 fn fall(head: Option<Head>, kind: DocKind) -> Fall
