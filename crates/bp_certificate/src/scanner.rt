@@ -66,7 +66,8 @@ impl CertificateScanner {
         let stage = mem::replace(&mut self.stage, Stage::Broken);
         match take_line(self.alloc, stage, line, ended) {
             Ok(step) => {
-                self.stage = step.stage;
+                // Dropped by a call, for the proof's sake as in `take_line`.
+                drop(mem::replace(&mut self.stage, step.stage));
                 self.lines = number;
                 Ok(step.lemma)
             }
@@ -97,7 +98,11 @@ impl CertificateScanner {
             Stage::Lemmas { head, .. } => Some(head),
             Stage::End { head } => Some(head),
             Stage::Behind { head } => Some(head),
-            _ => None,
+            // Dropped by a call, for the proof's sake as in `take_line`.
+            stage => {
+                drop(stage);
+                None
+            }
         }
     }
 

@@ -15,7 +15,10 @@ pub fn take_line(alloc: Global, stage: Stage, bytes: &[u8], ended: bool) -> Resu
     if ended {
         take_whole(alloc, stage, bytes)
     } else {
-        Err(Halt::Fault(cut(&stage)))
+        let kind = cut(&stage);
+        // Dropped by a call: the proof of a drop in place goes through all that a stage holds, branch by branch.
+        drop(stage);
+        Err(Halt::Fault(kind))
     }
 }
 
