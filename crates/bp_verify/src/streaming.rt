@@ -27,7 +27,10 @@ pub fn verify_source<D: Source>(
     ensures later { D.faults source.old ≤ D.faults source.new }
 {
     let mut intake = Intake::open(alloc, tree)?;
-    verify_all(alloc, &mut intake, source)
+    let verified = verify_all(alloc, &mut intake, source);
+    // Dropped by a call, for the proof's sake as in `verify_text`.
+    drop(intake);
+    verified
 }
 
 // The answer for all bytes of the source, by an intake that has taken nothing.
