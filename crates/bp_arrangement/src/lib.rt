@@ -11,6 +11,3 @@ pub use admissible::{first_inadmissible, is_admissible, is_corner};
 pub use fact::{Fact, Hint};
 pub use laws::{law_of_arrangement, law_of_codes, law_of_denials};
 pub use sending::head;
-
-#[cfg(test)]
-mod tests;

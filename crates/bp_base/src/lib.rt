@@ -40,6 +40,3 @@ pub use sequence::Sequence;
 pub use sink::{CountSink, MemSink};
 pub use source::{MemSource, QuietSource};
 pub use tree::Tree;
-
-#[cfg(test)]
-mod tests;

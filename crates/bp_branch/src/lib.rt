@@ -6,8 +6,6 @@ mod laws;
 mod order;
 mod pairs;
 mod placing;
-#[cfg(test)]
-mod tests;
 
 pub use judging::{examine, extended, judge};
 pub use laws::{has_next, law_of_branches, law_of_children, law_of_solved, one_next};

@@ -25,6 +25,3 @@ pub use limits::{
 pub use line::put_lemma;
 pub use scanner::CertificateScanner;
 pub use write::write_certificate;
-
-#[cfg(test)]
-mod tests;

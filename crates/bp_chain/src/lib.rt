@@ -4,8 +4,6 @@
 mod claim;
 mod counting;
 mod places;
-#[cfg(test)]
-mod tests;
 mod weighing;
 
 pub use claim::claim_holds;

@@ -19,6 +19,3 @@ pub use laws::{
 };
 pub use streaming::check_source;
 pub use verdict::{Reason, Verdict};
-
-#[cfg(test)]
-mod tests;

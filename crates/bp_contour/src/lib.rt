@@ -11,6 +11,3 @@ mod way;
 pub use laws::{law_of_after, one_contours};
 pub use loops::{Loop, contours};
 pub use table::Cells;
-
-#[cfg(test)]
-mod tests;

@@ -10,6 +10,3 @@ mod weighing;
 pub use designing::design;
 pub use replaying::{Counted, counted_replay, replayed};
 pub use steadying::{SteadyDesign, steadied};
-
-#[cfg(test)]
-mod tests;

@@ -40,6 +40,3 @@ pub use scanner::{MOST_LINE, Scanner};
 pub use stage::{Fall, Memory, Parts, Stage, Step};
 pub use step::take_line;
 pub use write::{put_edges, write_document};
-
-#[cfg(test)]
-mod tests;

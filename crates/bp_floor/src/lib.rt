@@ -7,8 +7,6 @@ mod law;
 mod lists;
 mod rows;
 mod taken;
-#[cfg(test)]
-mod tests;
 
 pub use best::floor;
 pub use holds::floor_holds;

@@ -13,6 +13,3 @@ pub use creases::draw;
 pub use drawing::{Drawing, Edge, Letter};
 pub use laws::law_of_drawings;
 pub use writing::write_fold;
-
-#[cfg(test)]
-mod tests;

@@ -11,6 +11,3 @@ mod tickets;
 pub use board::{Board, Closing};
 pub use pass::{Note, Pass};
 pub use tickets::Ticket;
-
-#[cfg(test)]
-mod tests;

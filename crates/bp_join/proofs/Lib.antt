@@ -3,5 +3,4 @@ mod Orders
 mod Parted
 mod Takings
 mod Joins
-mod Searching
 mod Worked

@@ -1,5 +1,4 @@
--- The statement: Joined. Entries and Trees serve loops and inner calls, Searches serves tests.
+-- The statement: Joined. Entries and Trees serve loops and inner calls.
 pub mod Entries
 pub mod Trees
 pub mod Joined
-pub mod Searches

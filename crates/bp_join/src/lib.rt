@@ -6,6 +6,3 @@ mod entry;
 mod joining;
 
 pub use joining::join;
-
-#[cfg(test)]
-mod tests;

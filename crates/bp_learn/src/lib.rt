@@ -16,8 +16,6 @@ mod reasons;
 mod run;
 mod search;
 mod swaps;
-#[cfg(test)]
-mod tests;
 mod watches;
 
 pub use learned::{Learned, learn};

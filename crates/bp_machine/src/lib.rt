@@ -18,6 +18,3 @@ pub use place::Place;
 pub use running::run_schedule;
 pub use seeded::run_seeded;
 pub use state::State;
-
-#[cfg(test)]
-mod tests;

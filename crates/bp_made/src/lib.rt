@@ -7,6 +7,3 @@ mod made;
 
 pub use laws::law_of_made;
 pub use made::made_tree;
-
-#[cfg(test)]
-mod tests;

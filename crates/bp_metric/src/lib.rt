@@ -8,6 +8,3 @@ mod table;
 
 pub use laws::{leaves_apart, radii_apart, triangle, twins_alike};
 pub use metric::Metric;
-
-#[cfg(test)]
-mod tests;

@@ -8,6 +8,3 @@ mod order;
 
 pub use laws::{has_opening, one_opening, opening_valid};
 pub use opening::open;
-
-#[cfg(test)]
-mod tests;

@@ -8,6 +8,3 @@ mod stream;
 pub use arguments::words;
 pub use file::{FileReader, FileSink, FileSource, FileWriter};
 pub use stream::{Input, Output};
-
-#[cfg(test)]
-mod tests;

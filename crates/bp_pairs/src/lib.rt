@@ -10,6 +10,3 @@ pub use choices::{ChoiceSet, allowed, holds};
 pub use laws::{has_steady, numbers_rise, one_steady};
 pub use numbers::{pair_at, pair_number};
 pub use valid::{Flaw, is_valid};
-
-#[cfg(test)]
-mod tests;

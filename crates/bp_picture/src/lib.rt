@@ -15,6 +15,3 @@ pub use label::Label;
 pub use laws::{law_of_fills, one_picture};
 pub use outline::{Outline, outlines};
 pub use picture::write_picture;
-
-#[cfg(test)]
-mod tests;

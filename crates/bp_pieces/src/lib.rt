@@ -9,6 +9,3 @@ mod reporting;
 
 pub use laws::law_of_report;
 pub use reporting::report;
-
-#[cfg(test)]
-mod tests;

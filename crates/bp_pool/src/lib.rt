@@ -14,6 +14,3 @@ pub use hand::Hand;
 pub use mem::MemTries;
 pub use pool::open;
 pub use tries::{Stolen, Take, Tries, take_from};
-
-#[cfg(test)]
-mod tests;

@@ -9,6 +9,3 @@ mod span;
 
 pub use laws::{law_of_cuts, law_of_regions};
 pub use regions::Regions;
-
-#[cfg(test)]
-mod tests;

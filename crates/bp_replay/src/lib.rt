@@ -12,6 +12,3 @@ mod store;
 mod unsure;
 
 pub use replay::Replay;
-
-#[cfg(test)]
-mod tests;

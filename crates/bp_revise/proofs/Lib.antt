@@ -15,4 +15,3 @@ mod Finals
 mod Begins
 mod Documents
 mod Revisions
-mod Rooms

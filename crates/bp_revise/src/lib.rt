@@ -14,6 +14,3 @@ pub use keeping::keep;
 pub use laws::{law_of_keep, one_start};
 pub use revising::revise;
 pub use shape::are_of_one_shape;
-
-#[cfg(test)]
-mod tests;

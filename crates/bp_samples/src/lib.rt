@@ -2,8 +2,6 @@
 #![tactic(auto)]
 
 mod paths;
-#[cfg(test)]
-mod tests;
 mod trees;
 
 pub use paths::{NoSample, leaves_of, path_of, step};

@@ -10,6 +10,3 @@ mod text;
 
 pub use solved::{Ending, Solved};
 pub use solving::solve;
-
-#[cfg(test)]
-mod tests;

@@ -3,8 +3,6 @@
 
 mod beginning;
 mod searching;
-#[cfg(test)]
-mod tests;
 mod turns;
 
 pub use beginning::begin;

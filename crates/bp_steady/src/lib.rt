@@ -8,7 +8,5 @@ mod pairs;
 mod path;
 mod rising;
 mod searching;
-#[cfg(test)]
-mod tests;
 
 pub use answering::{Steadied, steady};

@@ -10,6 +10,3 @@ mod twins;
 
 pub use laws::{law_of_refutations, law_of_settling, one_settling, refutation_counts};
 pub use settling::settle;
-
-#[cfg(test)]
-mod tests;

@@ -6,6 +6,3 @@ mod tallying;
 
 pub use laws::law_of_pairs;
 pub use tallying::{Counts, settled_tally, tally};
-
-#[cfg(test)]
-mod tests;

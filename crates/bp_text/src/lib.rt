@@ -8,6 +8,3 @@ mod writing;
 pub use cut::line;
 pub use digits::{long_number, number};
 pub use writing::{Digits, put, put_number, put_parts};
-
-#[cfg(test)]
-mod tests;

@@ -17,6 +17,3 @@ pub use grower::Grower;
 pub use laws::{law_of_one_answer, law_of_texts};
 pub use reading::read_tree;
 pub use writing::write_tree;
-
-#[cfg(test)]
-mod tests;

@@ -3,7 +3,5 @@
 
 mod children;
 mod examining;
-#[cfg(test)]
-mod tests;
 
 pub use examining::{Examiner, Turn};

@@ -18,6 +18,3 @@ pub use laws::{certifies_without_reason, law_of_certificates, law_of_verdicts, o
 pub use own::{Own, verify_own};
 pub use streaming::verify_source;
 pub use verdict::{Reason, Verdict};
-
-#[cfg(test)]
-mod tests;

@@ -8,8 +8,6 @@ mod lows;
 mod opens;
 mod orders;
 mod shown;
-#[cfg(test)]
-mod tests;
 mod walking;
 
 pub use cycles::begun_at_least;

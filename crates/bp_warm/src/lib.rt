@@ -10,8 +10,6 @@ mod links;
 mod orders;
 mod raising;
 mod showing;
-#[cfg(test)]
-mod tests;
 mod warm;
 mod work;
 

@@ -256,6 +256,3 @@ fn alone(words: &[String], asked: Words) -> Option<Words>
 {
     if words.len() == 1 { Some(asked) } else { None }
 }
-
-#[cfg(test)]
-mod tests;

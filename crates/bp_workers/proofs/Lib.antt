@@ -10,5 +10,5 @@ mod Placing
 mod Settling
 mod Merged
 mod Worked
-mod Seating
+pub mod Seating
 mod Returning

@@ -70,8 +70,9 @@ pub fn run_hands<R: Threads + Sync, G: Gate + Sync>(
     search(alloc, metric, found, floor, budget)
 }
 
-// A board at the opening's side, and its workers, of one pool whose root is the empty path.
-pub(crate) fn hire(
+/// A board at the opening's side in grid units, with so many tickets, and its workers, one for each hand of one pool whose root is the
+/// empty path.
+pub fn hire(
     alloc: Global,
     metric: &Metric,
     side: u64,

@@ -3,10 +3,8 @@
 
 mod hands;
 mod laws;
-#[cfg(test)]
-mod tests;
 mod worker;
 
-pub use hands::run_hands;
+pub use hands::{hire, run_hands};
 pub use laws::law_of_hands;
 pub use worker::Worker;

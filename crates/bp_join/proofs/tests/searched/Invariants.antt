@@ -1,5 +1,0 @@
-use Rattle.bp_join.specs.Searches.{CanJoin}
-use Rattle.bp_join.proofs.tests.searched.Given as goal
-
-abbrev pub invariant-loop-turn : goal.invariant-loop-turn
-invariant-loop-turn l = CanJoin l.metric.tree l.metric.sheet l.records.items l.left.items

@@ -1,5 +1,0 @@
-use Rattle.bp_pool.specs.Hands.{IsSameHand}
-use Rattle.bp_pool.proofs.tests.hold_turn.Given as goal
-
-abbrev pub invariant-loop-k : goal.invariant-loop-k
-invariant-loop-k l = IsSameHand l.fn.hand l.hand

@@ -1,5 +1,0 @@
-use Rattle.bp_pool.specs.Hands.{IsSameHand}
-use Rattle.bp_pool.proofs.tests.take_many.Given as goal
-
-abbrev pub invariant-loop : goal.invariant-loop
-invariant-loop l = IsSameHand l.fn.hand l.hand

@@ -1,4 +1,0 @@
-use Rattle.bp_workers.proofs.tests.search_plainly.Goals as goal
-
-pub search-requires-clause-underway : goal.search-requires-clause-underway
-search-requires-clause-underway c = c.in_ok-start.ensures.underway _
