@@ -42,8 +42,9 @@ impl Intake {
         ensures nothing { IfOk result (λ p. HasTakenIn tree.now p []) }
     {
         let metric = Metric::of(alloc, tree)?;
-        let scanner = Scanner::open(alloc)?;
         let stack = Stack::empty(alloc)?;
+        // Last, so that no failure drops it: the proof of such a drop goes through all that a scanner may hold.
+        let scanner = Scanner::open(alloc)?;
         Ok(Intake {
             scanner,
             metric,
