@@ -1,5 +1,5 @@
 /// What is found of a certificate's lemmas, once nothing before them is a reason against it.
-#[derive(Clone, Copy, Debug, PartialEq, Eq)]
+#[derive(Clone, Copy)]
 pub enum Found {
     /// There are none.
     NoLemmas,
