@@ -1,5 +1,5 @@
 /// One step of a hand. Hands are numbered from 1.
-#[derive(Clone, Copy, Debug, PartialEq, Eq)]
+#[derive(Clone, Copy)]
 pub enum Event {
     Pop { hand: u64 },
     Steal { hand: u64, from: u64 },

@@ -94,8 +94,15 @@ impl Hand {
             mut deque,
             mut kept,
             records: mut own,
+            place,
+            unplaced,
+            best,
             ..
         } = self;
+        // Dropped by calls at once: the proof of drops in place goes through all of these wherever memory may lack.
+        drop(place);
+        drop(unplaced);
+        drop(best);
         records.append(&mut own)?;
         left.append(&mut kept)?;
         while let Some(task) = deque.pop_front() {
