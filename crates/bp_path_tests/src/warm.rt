@@ -57,6 +57,15 @@ fn choice_of(draw: u64) -> Choice {
     }
 }
 
+// Whether these steps have a cycle, from scratch.
+fn has_cycle(alloc: Global, metric: &Metric, steps: &[Step]) -> Result<bool, Fail> {
+    let path = path_of(alloc, metric.leaves(), steps)?;
+    match least(alloc, metric, &path)? {
+        Walked::Fine(_) => Ok(false),
+        Walked::Cycle(_) => Ok(true),
+    }
+}
+
 // Adds a step, also to the list where it closed no cycle.
 fn add(
     alloc: Global,
@@ -72,16 +81,16 @@ fn add(
     ensures metric { warm.new.metric ≡ warm.old.metric }
     ensures same { OnOk result (length warm.new.path ≡ length steps.new.items) }
 {
-    let n = metric.leaves();
     steps.push(step)?;
     match warm.extend(metric, step) {
         None => Ok(()),
         Some(_) => {
-            let path = path_of(alloc, n, steps)?;
+            let cycle = has_cycle(alloc, metric, steps);
             let _last = steps.pop();
-            match least(alloc, metric, &path)? {
-                Walked::Fine(_) => Err(Fail::from("no cycle")),
-                Walked::Cycle(_) => Ok(()),
+            if cycle? {
+                Ok(())
+            } else {
+                Err(Fail::from("no cycle"))
             }
         }
     }
@@ -137,6 +146,14 @@ fn many_turns(
     Ok(())
 }
 
+fn on_metric(rt: &impl Abort, alloc: Global, metric: &Metric, seed: u64) -> Result<(), Fail> {
+    let mut warm = Warm::open(alloc, metric)?;
+    let result = many_turns(rt, alloc, metric, &mut warm, seed);
+    // Dropped by a call, as other large values below: the proof of a drop in place goes through all that the value holds, branch by branch.
+    drop(warm);
+    result
+}
+
 fn on_sheet(
     rt: &impl Abort,
     alloc: Global,
@@ -147,8 +164,16 @@ fn on_sheet(
     requires { IsSheet sheet }
 {
     let metric = Metric::on(alloc, tree, sheet)?;
-    let mut warm = Warm::open(alloc, &metric)?;
-    many_turns(rt, alloc, &metric, &mut warm, seed)
+    let result = on_metric(rt, alloc, &metric, seed);
+    drop(metric);
+    result
+}
+
+fn on_sheets(rt: &impl Abort, alloc: Global, tree: &Tree) -> Result<(), Fail> {
+    on_sheet(rt, alloc, tree, Sheet::Square, 1)?;
+    on_sheet(rt, alloc, tree, Sheet::Strip { width: 0 }, 2)?;
+    on_sheet(rt, alloc, tree, Sheet::Strip { width: 14 }, 3)?;
+    on_sheet(rt, alloc, tree, Sheet::Strip { width: 999_999 }, 4)
 }
 
 #[test]
@@ -156,10 +181,17 @@ fn as_from_scratch(rt: HostRuntime) -> Result<(), Fail> {
     let alloc = rt.alloc();
     let parents = [0, 0, 0, 0, 1, 1, 2, 2, 3, 3];
     let tree = tree(alloc, &parents, &[0, 3, 2, 1, 4, 2, 1, 5, 2, 2])?;
-    on_sheet(&rt, alloc, &tree, Sheet::Square, 1)?;
-    on_sheet(&rt, alloc, &tree, Sheet::Strip { width: 0 }, 2)?;
-    on_sheet(&rt, alloc, &tree, Sheet::Strip { width: 14 }, 3)?;
-    on_sheet(&rt, alloc, &tree, Sheet::Strip { width: 999_999 }, 4)
+    let result = on_sheets(&rt, alloc, &tree);
+    drop(tree);
+    result
+}
+
+// A star of three on the square.
+fn star(alloc: Global) -> Result<Metric, Fail> {
+    let tree = tree(alloc, &[0, 0, 0, 0], &[0, 1, 1, 1])?;
+    let metric = Metric::of(alloc, &tree);
+    drop(tree);
+    Ok(metric?)
 }
 
 // Adds a step where it names a pair of leaves and there is room for it.
@@ -183,29 +215,8 @@ fn put(
     Err(Fail::from("no step"))
 }
 
-#[test]
-fn two_steps_of_a_star(rt: HostRuntime) -> Result<(), Fail> {
-    let alloc = rt.alloc();
-    let tree = tree(alloc, &[0, 0, 0, 0], &[0, 1, 1, 1])?;
-    let metric = Metric::of(alloc, &tree)?;
-    let mut warm = Warm::open(alloc, &metric)?;
-    let mut steps = Vec::new(alloc);
-    put(
-        alloc,
-        &metric,
-        &mut warm,
-        &mut steps,
-        step(1, 2, Choice::Left),
-    )?;
-    put(
-        alloc,
-        &metric,
-        &mut warm,
-        &mut steps,
-        step(2, 3, Choice::Left),
-    )?;
-    is_warm(&rt, alloc, &metric, &warm, &steps)?;
-    let found = warm.least();
+// The three stand in a row.
+fn in_a_row(rt: &impl Abort, alloc: Global, found: &Least) -> Result<(), Fail> {
     assert_eq!(rt; found.xs.as_slice(), [0, 2, 4].as_slice());
     assert_eq!(rt; found.ys.as_slice(), [0, 0, 0].as_slice());
     assert_eq!(rt; found.forced, 4);
@@ -213,6 +224,40 @@ fn two_steps_of_a_star(rt: HostRuntime) -> Result<(), Fail> {
     assert_eq!(rt; axis, Axis::X);
     assert_eq!(rt; leaves.as_slice(), [1, 2, 3].as_slice());
     Ok(())
+}
+
+fn two_steps(
+    rt: &impl Abort,
+    alloc: Global,
+    metric: &Metric,
+    warm: &mut Warm,
+    steps: &mut Vec<Step>,
+) -> Result<(), Fail>
+    requires metric { metric.now ≡ warm.old.metric }
+    requires same { length warm.old.path ≡ length steps.old.items }
+{
+    put(alloc, metric, warm, steps, step(1, 2, Choice::Left))?;
+    put(alloc, metric, warm, steps, step(2, 3, Choice::Left))?;
+    is_warm(rt, alloc, metric, warm, steps)?;
+    in_a_row(rt, alloc, warm.least())
+}
+
+fn two_steps_on(rt: &impl Abort, alloc: Global, metric: &Metric) -> Result<(), Fail> {
+    let mut warm = Warm::open(alloc, metric)?;
+    let mut steps = Vec::new(alloc);
+    let result = two_steps(rt, alloc, metric, &mut warm, &mut steps);
+    drop(steps);
+    drop(warm);
+    result
+}
+
+#[test]
+fn two_steps_of_a_star(rt: HostRuntime) -> Result<(), Fail> {
+    let alloc = rt.alloc();
+    let metric = star(alloc)?;
+    let result = two_steps_on(&rt, alloc, &metric);
+    drop(metric);
+    result
 }
 
 // Goes to the path of these steps; whether it has no cycle.
@@ -247,12 +292,10 @@ fn go_along(
     Ok(())
 }
 
-#[test]
-fn from_path_to_path(rt: HostRuntime) -> Result<(), Fail> {
-    let alloc = rt.alloc();
-    let tree = tree(alloc, &[0, 0, 0, 0], &[0, 1, 1, 1])?;
-    let metric = Metric::of(alloc, &tree)?;
-    let mut warm = Warm::open(alloc, &metric)?;
+// Goes along four paths, and then to one with a cycle.
+fn to_a_cycle(rt: &impl Abort, alloc: Global, metric: &Metric, warm: &mut Warm) -> Result<(), Fail>
+    requires { metric.now ≡ warm.old.metric }
+{
     let right = step(1, 3, Choice::Right);
     let paths: [&[Step]; 4] = [
         &[step(1, 2, Choice::Left), step(2, 3, Choice::Left)],
@@ -260,8 +303,24 @@ fn from_path_to_path(rt: HostRuntime) -> Result<(), Fail> {
         &[],
         &[step(2, 3, Choice::Left)],
     ];
-    go_along(&rt, alloc, &metric, &mut warm, &paths)?;
+    go_along(rt, alloc, metric, warm, &paths)?;
     let cycle = [step(1, 2, Choice::Left), step(2, 3, Choice::Left), right];
-    assert!(rt; !goes(alloc, &metric, &mut warm, &cycle)?);
+    assert!(rt; !goes(alloc, metric, warm, &cycle)?);
     Ok(())
+}
+
+fn to_a_cycle_on(rt: &impl Abort, alloc: Global, metric: &Metric) -> Result<(), Fail> {
+    let mut warm = Warm::open(alloc, metric)?;
+    let result = to_a_cycle(rt, alloc, metric, &mut warm);
+    drop(warm);
+    result
+}
+
+#[test]
+fn from_path_to_path(rt: HostRuntime) -> Result<(), Fail> {
+    let alloc = rt.alloc();
+    let metric = star(alloc)?;
+    let result = to_a_cycle_on(&rt, alloc, &metric);
+    drop(metric);
+    result
 }
