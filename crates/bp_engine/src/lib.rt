@@ -27,4 +27,6 @@ pub use bp_words::{Words, words_of};
 pub use command::run;
 pub use pages::{HELP, VERSION};
 pub use status::Status;
+pub use tell::put_status;
+pub use text::Text;
 pub use tree_design::design_tree;

@@ -19,8 +19,9 @@ pub fn tell<E: Sink>(err: &mut E, status: Status)
     let _ = put_status(err, status);
 }
 
+/// Writes what the status tells on the error output.
 #[tactic(auto, unfolding(crate::specs::Texts::text_of))]
-fn put_status<E: Sink>(err: &mut E, status: Status) -> Result<(), Failed>
+pub fn put_status<E: Sink>(err: &mut E, status: Status) -> Result<(), Failed>
     ensures text { Puts (E.held err.old) (E.held err.new) result (text_of status) }
     ensures cause { HasCause (E.faults err.old) (E.faults err.new) result }
 {

@@ -7,7 +7,7 @@ use bp_base::{Failed, NoMemory, Sink};
 use bp_document::{Document, write_document};
 use std::alloc::Global;
 
-// Bytes in memory. A write fails only for want of memory, which is counted as a fault.
+/// Bytes in memory. A write fails only for want of memory, which is counted as a fault.
 #[derive(Drop)]
 pub struct Text {
     pub bytes: Vec<u8>,
@@ -15,6 +15,7 @@ pub struct Text {
 }
 
 impl Text {
+    /// No bytes yet.
     pub fn new(alloc: Global) -> Text
         ensures { result.bytes.items ≡ [] }
     {
