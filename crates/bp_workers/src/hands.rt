@@ -1,5 +1,5 @@
 // Hands on threads, from the opening to a settled search.
-ghost use Rattle.std.specs.Prelude.{◌≡◌, ◌<◌, ◌≤◌, ◌+◌, ℕ, IfOk, length, slice_index_or};
+ghost use Rattle.std.specs.Prelude.{◌≡◌, ◌<◌, ◌≤◌, ◌+◌, ◌++◌, ℕ, IfOk, OnOk, length, slice_index_or};
 ghost use Rattle.bp_base.specs.Limits.{most_budget, most_hands, most_number};
 ghost use Rattle.bp_base.specs.Tree.{leaf_count};
 ghost use Rattle.bp_metric.specs.Floor.{IsFloorSide};
@@ -92,8 +92,18 @@ pub fn hire(
     };
     let (board, passes) = Board::open(alloc, side, budget, hands)?;
     let all = open(alloc, hands, leaves, task)?;
-    let workers = seat(alloc, metric, &board, side, all, passes)?;
+    let room = room_for(budget, hands);
+    let workers = seat(alloc, metric, &board, side, all, passes, room)?;
     Ok((board, workers))
+}
+
+// Room for a hand's share of the records, so that they are seldom moved to a larger place while it works.
+fn room_for(budget: u64, hands: u64) -> u64
+    requires hands { 0 < hands }
+    requires budget { budget ≤ most_budget }
+    ensures { result ≤ most_budget + 1 }
+{
+    budget / hands + 1
 }
 
 // A worker for each hand, with the pass of the same number.
@@ -104,6 +114,7 @@ fn seat(
     _side: u64,
     mut all: Vec<Hand>,
     mut passes: Vec<Pass>,
+    room: u64,
 ) -> Result<Vec<Worker>, NoMemory>
     requires side { _side ≤ most_number }
     requires count { (0 < length all.items) × (length passes.items ≡ length all.items) × (_board.now.passes ≡ length all.items) }
@@ -117,7 +128,7 @@ fn seat(
             unreachable!()
         };
         let number = all.len() as u64 + 1;
-        let worker = Worker::new(alloc, hand, pass, number);
+        let worker = Worker::new(alloc, hand, pass, number, room)?;
         workers.insert(0, worker)?;
     }
     Ok(workers)
@@ -169,7 +180,7 @@ fn come_back(
         let Worker {
             hand,
             pass,
-            mut records,
+            records,
             mut kept,
             best,
             ended,
@@ -180,11 +191,23 @@ fn come_back(
         }
         team.hands.push(hand)?;
         team.passes.push(pass)?;
-        team.records.append(&mut records)?;
+        add_records(&mut team.records, records)?;
         team.kept.append(&mut kept)?;
         team.best = lesser(team.best.take(), best);
     }
     Ok(team)
+}
+
+// Puts more records behind these. Where there are none yet, they stay where they are: those of one hand are never copied.
+fn add_records(records: &mut Vec<Record>, mut more: Vec<Record>) -> Result<(), NoMemory>
+    ensures { OnOk result (records.new.items ≡ records.old.items ++ more.items) }
+{
+    if records.is_empty() {
+        *records = more;
+        return Ok(());
+    }
+    records.append(&mut more)?;
+    Ok(())
 }
 
 fn ran_out(ended: Option<Left>) -> bool

@@ -1,5 +1,5 @@
 // Workers and their turns.
-ghost use Rattle.std.specs.Prelude.{◌≡◌, ℕ, ◌+◌, ◌<◌, ◌≤◌, ◌||◌, true, false, min, None, Some, [], ◌++◌, IfNone, MatchOption, OnOk, All, length, vec_len, vec_capacity};
+ghost use Rattle.std.specs.Prelude.{◌≡◌, ℕ, ◌+◌, ◌<◌, ◌≤◌, ◌||◌, true, false, min, None, Some, [], ◌++◌, IfNone, IfOk, MatchOption, OnOk, All, length, vec_len, vec_capacity};
 ghost use Rattle.bp_base.specs.declared.point.Sheet.{Sheet};
 ghost use Rattle.bp_base.specs.Limits.{most_number};
 ghost use Rattle.bp_base.specs.Tree.{TreeValue, leaf_count};
@@ -46,15 +46,21 @@ pub enum Turned {
 }
 
 impl Worker {
-    /// A worker that has done nothing, of this number.
-    pub fn new(alloc: Global, hand: Hand, pass: Pass, number: u64) -> Worker
-        ensures place { (result.number ≡ number) × (result.hand ≡ hand) × (result.pass ≡ pass) }
-        ensures ended { result.ended ≡ None }
-        ensures agrees { (T : TreeValue) (G : Sheet) (board : BoardView) (pool : PoolView) (opening : ℕ) (k j : ℕ) → hand ≡ new_hand pool k → pool.leaves ≡ leaf_count T → pass ≡ new_pass board.id j opening → opening ≤ most_number → Agrees T G board result }
+    /// A worker that has done nothing, of this number, with room for so many records.
+    pub fn new(
+        alloc: Global,
+        hand: Hand,
+        pass: Pass,
+        number: u64,
+        room: u64,
+    ) -> Result<Worker, NoMemory>
+        ensures place { IfOk result (λ w. (w.number ≡ number) × (w.hand ≡ hand) × (w.pass ≡ pass)) }
+        ensures ended { IfOk result (λ w. w.ended ≡ None) }
+        ensures agrees { IfOk result (λ w. (T : TreeValue) (G : Sheet) (board : BoardView) (pool : PoolView) (opening : ℕ) (k j : ℕ) → hand ≡ new_hand pool k → pool.leaves ≡ leaf_count T → pass ≡ new_pass board.id j opening → opening ≤ most_number → Agrees T G board w) }
     {
-        let records = Vec::new(alloc);
+        let records = Vec::with_capacity(alloc, room as usize)?;
         let kept = Vec::new(alloc);
-        Worker {
+        Ok(Worker {
             hand,
             pass,
             number,
@@ -62,7 +68,7 @@ impl Worker {
             kept,
             best: None,
             ended: None,
-        }
+        })
     }
 
     /// Takes tasks and examines them, turn by turn, until a side at or below the floor was loaded, a ticket at or above the limit was

@@ -29,7 +29,7 @@ loop-worker-preserved c =
           let place : length us < length ws = omega (arith, back.count, less) in
           let seated : IsSeated board worked.pool (length us) w = subst (λ (v : Worker). IsSeated board worked.pool (length us) v) (sym last) (worked.seated.each (length us) w place) in
           let ended : HasEnded T G board w = subst (λ (v : Worker). HasEnded T G board v) (sym last) (worked.ended (length us) w place) in
-          one_more_back T G board worked.pool (length ws) (length us) (length vs) less team.hands.items team.passes.items team.records.items team.kept.items team.best back w.hand w.pass w.records.items w.kept.items w.best seated.of_pool seated.number (ended_agrees T G board w ended in_memory) c.push.new.self.items c.push-in-Some.new.self.items c.append.new.self.items c.append-in-Some.new.self.items c.lesser.result c.in_ok-push.ensures.items c.in_ok-push-2.ensures.items c.in_ok-append.ensures.items c.in_ok-append-2.ensures.items (c.lesser.ensures ∙ ap (λ (o : Option Placement). lesser o w.best) c.take.ensures.value);
+          one_more_back T G board worked.pool (length ws) (length us) (length vs) less team.hands.items team.passes.items team.records.items team.kept.items team.best back w.hand w.pass w.records.items w.kept.items w.best seated.of_pool seated.number (ended_agrees T G board w ended in_memory) c.push.new.self.items c.push-in-Some.new.self.items c.add_records.new.records.items c.append.new.self.items c.lesser.result c.in_ok-push.ensures.items c.in_ok-push-2.ensures.items c.in_ok-add_records.ensures c.in_ok-append.ensures.items (c.lesser.ensures ∙ ap (λ (o : Option Placement). lesser o w.best) c.take.ensures.value);
     }
 
 pub returns : goal.returns

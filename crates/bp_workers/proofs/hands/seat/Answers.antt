@@ -23,7 +23,7 @@ loop-hand-preserved c =
     let qs = c.pop-in-Some.new.self.items in
     let pass = c.in-Some-pop.pass in
     let pass_is = c.in-Some-pop.ensures.items in
-    let worker = c.new-worker.result in
+    let worker = c.in_ok-worker.worker in
     let items = c.in_ok-insert.ensures.items in
     let less = one_less ws vs us hand is inv.hands in
     let fewer = one_less xs ps qs pass pass_is inv.passes in
@@ -38,9 +38,9 @@ loop-hand-preserved c =
           let hand_is : hand ≡ new_hand new.pool (length us + 1) = last_is ws vs us hand is inv.hands ∙ new.each (length us) hand place in
           let of_board : pass ≡ new_pass board.id (length us + 1) side = last_is xs ps qs pass pass_is inv.passes ∙ ap (λ (n : ℕ). get_or xs n pass) same ∙ c.requires.passes (length us) pass place in
           let made : IsNewWorker T G board new.pool side (length us + 1) worker = record {
-            hand = c.new-worker.ensures.place.1 ∙ hand_is;
-            pass = c.new-worker.ensures.place.2 ∙ of_board;
-            agrees = c.new-worker.ensures.agrees T G board new.pool side (length us + 1) (length us + 1) hand_is new.leaves_are of_board c.requires.side;
+            hand = c.in_ok-worker.ensures.place.1 ∙ hand_is;
+            pass = c.in_ok-worker.ensures.place.2 ∙ of_board;
+            agrees = c.in_ok-worker.ensures.agrees T G board new.pool side (length us + 1) (length us + 1) hand_is new.leaves_are of_board c.requires.side;
           } in
           one_more T G board new.pool side (length us) (length vs) worker c.loop-hand.workers.items c.insert.new.self.items items less made (inv.workers new);
     }
