@@ -1,5 +1,5 @@
 -- What is kept, taken apart, is a revision on its way.
-use Rattle.std.proofs.Common.{◌≡◌, inl, ℕ, ◌<◌, List, [], ◌∷◌, ◌++◌, length, get_or, map, All, refl, sym, ap, ◌∙◌, subst, arith}
+use Rattle.std.proofs.Common.{◌≡◌, inl, ℕ, ◌<◌, List, [], ◌++◌, length, get_or, map, All, refl, sym, ap, ◌∙◌, subst, arith}
 use Rattle.std.specs.List.{filter}
 use Rattle.std.proofs.lemmas.List.{append-nil, get_or-map, get_or_default, length-map}
 use Rattle.std.proofs.lemmas.List.Elements.{All-filter, All-map}
@@ -8,7 +8,6 @@ use Rattle.bp_base.specs.declared.point.Placement.{Placement}
 use Rattle.bp_base.specs.declared.point.Point.{Point}
 use Rattle.bp_base.specs.declared.point.Sheet.{Sheet}
 use Rattle.bp_base.specs.declared.record.Record.{Record}
-use Rattle.bp_base.specs.declared.record.Settled.{Settled}
 use Rattle.bp_base.specs.declared.record.Task.{Task}
 use Rattle.bp_base.specs.declared.refutation.Refutation.{Refutation}
 use Rattle.bp_base.specs.Tree.{TreeValue}
@@ -21,8 +20,7 @@ use Rattle.bp_check.proofs.Reading.{nodes-whole}
 use Rattle.bp_join.specs.Joined.{node_of}
 use Rattle.bp_revise.specs.Apart.{IsOfPairs, examined, nodes_below, open_paths}
 use Rattle.bp_revise.specs.Course.{IsBegun, IsLeft, IsOnCourse}
-use Rattle.bp_revise.specs.Revised.{IsGrown}
-use Rattle.bp_revise.specs.Revised.IsGrown.{root, child}
+use Rattle.bp_revise.specs.Revised.IsGrown.{root}
 use Rattle.bp_revise.proofs.GoodNodes.{IsGood, all_good, begun_balanced}
 
 module _ (T : TreeValue) (G : Sheet) (kept : Refutation) where

@@ -1,6 +1,6 @@
 -- A branch in hand is examined: what holds of a revision before still holds with its record and what follows of it.
-use Rattle.std.proofs.Common.{◌≡◌, ◌≢◌, ◌⊎◌, inl, inr, ℕ, zero, suc, ◌+◌, ◌<◌, ◌≤◌, List, [], ◌∷◌, ◌++◌, reverse, length, map, get_or, All, Any, Option, None, Some, MatchOption, refl, sym, ap, ◌∙◌, subst, arith, append_assoc}
-use Rattle.std.specs.List.{AllPairs, Contains, flat_map, sum_by}
+use Rattle.std.proofs.Common.{◌≡◌, ◌⊎◌, inl, inr, ℕ, zero, suc, ◌+◌, ◌<◌, ◌≤◌, List, [], ◌∷◌, ◌++◌, reverse, length, map, get_or, All, Any, Option, None, Some, MatchOption, refl, sym, ap, ◌∙◌, subst, arith, append_assoc}
+use Rattle.std.specs.List.{Contains, flat_map, sum_by}
 use Rattle.std.proofs.lemmas.List.{get_or_default, get_or_append_left, get_or_at, length-append, length_push, reverse-append}
 use Rattle.std.proofs.lemmas.List.Elements.{All-append, All-map, All-push}
 use Rattle.std.proofs.lemmas.List.Quantifiers.{Any-push}
@@ -11,7 +11,6 @@ use Rattle.bp_base.specs.declared.chain.Claim.TheVariants.{Walk, Cycle}
 use Rattle.bp_base.specs.declared.path.Choice.{Choice}
 use Rattle.bp_base.specs.declared.path.Pair.{Pair}
 use Rattle.bp_base.specs.declared.path.Step.{Step}
-use Rattle.bp_base.specs.declared.point.Axis.{Axis}
 use Rattle.bp_base.specs.declared.point.Axis.TheVariants.{X, Y}
 use Rattle.bp_base.specs.declared.point.Placement.{Placement}
 use Rattle.bp_base.specs.declared.point.Point.{Point}
@@ -28,9 +27,9 @@ use Rattle.bp_base.proofs.Bags.{sum_by-map, sum_by-flat_map, same-IsPermutation}
 use Rattle.bp_metric.specs.Chains.{HasCycle}
 use Rattle.bp_metric.specs.Choices.{allowed}
 use Rattle.bp_metric.specs.Coordinates.{IsCycleShown, IsForced, IsShown, IsShownOrCycle}
-use Rattle.bp_metric.specs.Next.{IsNext, IsNextPair}
+use Rattle.bp_metric.specs.Next.{IsNextPair}
 use Rattle.bp_metric.specs.Nodes.{Part, SplitOf, ClosedBy, OpenBy, counted}
-use Rattle.bp_metric.specs.Records.{IsBalanced, children, children_of, paths_left, paths_of}
+use Rattle.bp_metric.specs.Records.{IsBalanced, children, children_of, paths_left}
 use Rattle.bp_metric.specs.Refutation.{CanSplit, extended}
 use Rattle.bp_metric.specs.Valid.{Valid}
 use Rattle.bp_branch.specs.Outcomes.{IsClosed, IsSplit}
@@ -38,11 +37,11 @@ use Rattle.bp_branch.specs.Outcomes as outcomes
 use Rattle.bp_check.specs.Written.{CountsFrom}
 use Rattle.bp_turn.specs.Turns.{AreLowPoints, IsCycleFound, IsFound, IsFoundOrCyclic, child, tasks_of}
 use Rattle.bp_turn.proofs.Forced.{one_forced}
-use Rattle.bp_join.specs.Joined.{node_of, part_of}
+use Rattle.bp_join.specs.Joined.{part_of}
 use Rattle.bp_revise.specs.Apart.{IsOfPairs}
 use Rattle.bp_revise.specs.Course.{IsLeft, IsMade, IsOnCourse, Solves, placed, with_task}
-use Rattle.bp_revise.specs.Revised.{AreSolvedPoints, IsGrown, IsOther, IsOtherPart, IsSolved, SolvedPart}
-use Rattle.bp_revise.specs.Revised.IsGrown.{root, child as grown_child}
+use Rattle.bp_revise.specs.Revised.{AreSolvedPoints, IsOtherPart, SolvedPart}
+use Rattle.bp_revise.specs.Revised.IsGrown.{child as grown_child}
 use Rattle.bp_revise.proofs.PathPairs.{longer_pairs, next_can}
 use Rattle.bp_revise.proofs.ShownCounts.{shown_counts}
 

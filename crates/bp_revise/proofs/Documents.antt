@@ -1,5 +1,5 @@
 -- The document of a revision that has ended.
-use Rattle.std.proofs.Common.{◌≡◌, ◌≢◌, ◌⊎◌, inl, inr, ℕ, suc, ◌+◌, ◌-◌, ◌*◌, ◌/◌, ◌<◌, ◌≤◌, min, List, [], ◌∷◌, length, get_or, All, Option, None, Some, refl, sym, ap, ◌∙◌, subst, arith}
+use Rattle.std.proofs.Common.{◌≡◌, ◌≢◌, inl, inr, ℕ, ◌+◌, ◌-◌, ◌<◌, ◌≤◌, List, [], get_or, All, Option, None, Some, refl, sym, ap, ◌∙◌, subst, arith}
 use Rattle.std.proofs.lemmas.Bool.{cases_lt}
 use Rattle.std.proofs.lemmas.List.{get_or_default}
 use Rattle.bp_base.specs.declared.point.Floor.{Floor}
@@ -11,7 +11,7 @@ use Rattle.bp_base.specs.declared.record.Record.{Record}
 use Rattle.bp_base.specs.declared.record.Settled.{Settled}
 use Rattle.bp_base.specs.declared.record.Task.{Task}
 use Rattle.bp_base.specs.declared.refutation.Refutation.{Refutation}
-use Rattle.bp_base.specs.Limits.{most_document_bytes, most_number}
+use Rattle.bp_base.specs.Limits.{most_number}
 use Rattle.bp_base.specs.Point.{origin, point_at, IsSmallPoint}
 use Rattle.bp_base.specs.Tree.{TreeValue, IsTree, leaf_count}
 use Rattle.bp_metric.specs.Chains.{HasPairsOf}
@@ -23,7 +23,7 @@ use Rattle.bp_metric.specs.Valid.{Lies, NoneBelow, Valid}
 use Rattle.bp_join.specs.Joined.{HasPairOf, IsJoined}
 use Rattle.bp_document.specs.declared.document.Document.{Document}
 use Rattle.bp_document.specs.Ranges.{IsDocument, IsFloorLine, HasProof}
-use Rattle.bp_check.specs.Checks.{Checks, IsBoundShown, ProofFits}
+use Rattle.bp_check.specs.Checks.{IsBoundShown, ProofFits}
 use Rattle.bp_check.specs.Written.{bound_of}
 use Rattle.bp_revise.specs.Apart.{open_paths}
 use Rattle.bp_revise.specs.Course.{IsEnded, IsFloorOf, IsWrittenFrom}

@@ -1,17 +1,12 @@
 -- What a revision ends with, and the document that is written of it.
-use Rattle.std.proofs.Common.{◌≡◌, ◌≢◌, ◌⊎◌, inl, inr, ℕ, zero, suc, ◌+◌, ◌-◌, ◌*◌, ◌/◌, ◌<◌, ◌≤◌, min, Bool, true, false, cond, List, [], ◌∷◌, ◌++◌, length, get_or, map, All, Any, Option, None, Some, refl, sym, ap, ◌∙◌, subst, arith}
-use Rattle.std.specs.List.{AllPairs, AllByRecursion, Contains, filter, sum_by}
+use Rattle.std.proofs.Common.{◌≡◌, ◌⊎◌, inl, inr, ℕ, zero, suc, ◌+◌, ◌*◌, ◌<◌, ◌≤◌, cond, List, [], ◌∷◌, ◌++◌, length, get_or, map, All, Any, Option, None, Some, refl, sym, ap, ◌∙◌, subst, arith}
+use Rattle.std.specs.List.{AllByRecursion, sum_by}
 use Rattle.std.proofs.lemmas.Bool.{cases_lt}
-use Rattle.std.proofs.lemmas.List.{length-append, length-map, get_or-map, get_or_default, get_or_append_left, append_assoc, map-append}
-use Rattle.std.proofs.lemmas.List.Elements.{All-append, All-filter, All-from_recursion, All-map, filter-append, recursion_from_All}
-use Rattle.bp_base.specs.declared.chain.Claim.{Claim}
-use Rattle.bp_base.specs.declared.chain.Claim.TheVariants.{Walk, Cycle}
+use Rattle.std.proofs.lemmas.List.{length-append, length-map, get_or-map, append_assoc, map-append}
+use Rattle.std.proofs.lemmas.List.Elements.{All-append, All-filter, All-from_recursion, All-map, recursion_from_All}
 use Rattle.bp_base.specs.declared.path.Step.{Step}
-use Rattle.bp_base.specs.declared.point.Floor.{Floor}
 use Rattle.bp_base.specs.declared.point.Placement.{Placement}
-use Rattle.bp_base.specs.declared.point.Point.{Point}
 use Rattle.bp_base.specs.declared.point.Sheet.{Sheet}
-use Rattle.bp_base.specs.declared.point.Sheet.TheVariants.{Square, Strip}
 use Rattle.bp_base.specs.declared.record.Record.{Record}
 use Rattle.bp_base.specs.declared.record.RecordKind.{RecordKind}
 use Rattle.bp_base.specs.declared.record.RecordKind.TheVariants.{Split, Closed}
@@ -19,28 +14,19 @@ use Rattle.bp_base.specs.declared.record.Settled.{Settled}
 use Rattle.bp_base.specs.declared.record.Task.{Task}
 use Rattle.bp_base.specs.declared.refutation.Refutation.{Refutation}
 use Rattle.bp_base.specs.Bags.{AreSame}
-use Rattle.bp_base.specs.Limits.{most_number, most_proof_lines, most_steps}
-use Rattle.bp_base.specs.Point.{origin, point_at, IsSmallPoint}
+use Rattle.bp_base.specs.Limits.{most_proof_lines, most_steps}
 use Rattle.bp_base.specs.Tree.{TreeValue, IsTree, leaf_count}
-use Rattle.bp_metric.specs.Chains.{ClaimHolds, HasPairsOf}
-use Rattle.bp_metric.specs.Choices.{allowed}
-use Rattle.bp_metric.specs.Coordinates.{IsShownOrCycle}
-use Rattle.bp_metric.specs.Distance.{most_side}
-use Rattle.bp_metric.specs.Floor.{FloorHolds, IsFloor}
-use Rattle.bp_metric.specs.Metric.{IsSheet}
+use Rattle.bp_metric.specs.Chains.{HasPairsOf}
 use Rattle.bp_metric.specs.Nodes.{Node, Part, SplitOf, ClosedBy, OpenBy, counted, counted_part, least_of, lesser, node_count_of, nodes_of, parts_of, weighs}
 use Rattle.bp_metric.specs.Records.{IsBalanced, paths_left, paths_of}
 use Rattle.bp_metric.specs.Refutation.{Fits}
-use Rattle.bp_metric.specs.Valid.{Lies, NoneBelow, Valid}
-use Rattle.bp_floor.specs.Small as small_floor
 use Rattle.bp_join.specs.Joined.{AreOpenNodes, HasPairOf, IsJoined, IsOpenNode, node_of, part_of}
-use Rattle.bp_document.specs.declared.document.Document.{Document}
-use Rattle.bp_document.specs.Ranges.{IsDocument, IsFloorLine, IsProof, IsSmallPart, HasProof}
-use Rattle.bp_check.specs.Checks.{Checks, IsAtMost, IsBoundShown, ProofFits}
-use Rattle.bp_check.specs.Written.{CountsFrom, bound_of, examined_count, is_examined, is_open, open_count}
+use Rattle.bp_document.specs.Ranges.{IsProof, IsSmallPart}
+use Rattle.bp_check.specs.Checks.{IsAtMost}
+use Rattle.bp_check.specs.Written.{CountsFrom, bound_of, examined_count, is_examined, open_count}
 use Rattle.bp_revise.specs.Apart.{IsOfPairs, examined, open_paths}
-use Rattle.bp_revise.specs.Course.{IsAtEnd, IsBegun, IsLeft, IsMade, IsOnCourse, Solves}
-use Rattle.bp_revise.specs.Revised.{CoversGrown, HasRevisedProof, IsGrown, IsLeastFrom, IsOther, IsOtherPart, IsRevisedProof, IsSolved, PartCounts, SolvedPart, budget_beside}
+use Rattle.bp_revise.specs.Course.{IsAtEnd, IsBegun, IsLeft, IsOnCourse, Solves}
+use Rattle.bp_revise.specs.Revised.{CoversGrown, IsGrown, IsLeastFrom, IsOther, IsOtherPart, IsRevisedProof, IsSolved, PartCounts, SolvedPart, budget_beside}
 use Rattle.bp_revise.proofs.Covered.{differ_beside, few_more}
 use Rattle.bp_revise.proofs.FoundNodes.{all_found, open_all, open_all_left, nodes_many, open_holds, claim_small}
 use Rattle.bp_revise.proofs.NodeParts.{parts_same, depth_within}

@@ -1,7 +1,7 @@
 -- A refutation fits exactly where each of its nodes may stand at its path, and then none of its branches is lost or doubled.
-use Rattle.std.proofs.Common.{◌≡◌, ℕ, suc, ◌+◌, ◌<◌, ◌≤◌, Bool, true, false, cond, not, List, [], ◌∷◌, ◌++◌, length, map, All, refl, sym, ap, ◌∙◌, subst, arith, length-append}
+use Rattle.std.proofs.Common.{◌≡◌, ℕ, suc, ◌+◌, not, List, [], ◌∷◌, ◌++◌, length, map, All, refl, sym, ap, subst, arith}
 use Rattle.std.specs.List.{flat_map, filter, sum_by, AllByRecursion}
-use Rattle.std.proofs.lemmas.List.{length-map, map-append}
+use Rattle.std.proofs.lemmas.List.{length-map}
 use Rattle.std.proofs.lemmas.List.Elements.{All-from_recursion, recursion_from_All}
 use Rattle.std.proofs.lemmas.List.Filters.{length-filter_both, sum_by-filter_both}
 use Rattle.std.proofs.lemmas.List.Sums.{sum_by-append, sum_by-cons}
@@ -9,7 +9,6 @@ use Rattle.bp_base.specs.declared.path.Choice.{Choice}
 use Rattle.bp_base.specs.declared.path.Pair.{Pair}
 use Rattle.bp_base.specs.declared.path.Step.{Step}
 use Rattle.bp_base.specs.declared.point.Sheet.{Sheet}
-use Rattle.bp_base.specs.declared.chain.Claim.{Claim}
 use Rattle.bp_base.specs.declared.record.Record.{Record}
 use Rattle.bp_base.specs.declared.record.RecordKind.{RecordKind}
 use Rattle.bp_base.specs.declared.record.RecordKind.TheVariants as sort
@@ -20,7 +19,7 @@ use Rattle.bp_base.specs.Tree.{TreeValue, leaf_count}
 use Rattle.bp_base.proofs.Bags.{sum_by-map, sum_by-flat_map}
 use Rattle.bp_metric.specs.Chains.{ClaimHolds}
 use Rattle.bp_metric.specs.Choices.{allowed}
-use Rattle.bp_metric.specs.Nodes.{Node, Part, SplitOf, ClosedBy, OpenBy, child_nodes, nodes_of, node_count_of, parts_of}
+use Rattle.bp_metric.specs.Nodes.{Node, Part, SplitOf, ClosedBy, OpenBy, child_nodes, nodes_of, node_count_of}
 use Rattle.bp_metric.specs.Records.{IsBalanced, children, children_of, paths_left, paths_of}
 use Rattle.bp_metric.specs.Refutation.{CanSplit, EachFits, Fits, extended}
 use Rattle.bp_metric.proofs.Refutations.{fits-split, fits-closed, fits-open}
@@ -28,7 +27,7 @@ use Rattle.bp_document.proofs.NodeLists.{by_nodes}
 use Rattle.bp_check.specs.Written.{is_examined, is_open}
 use Rattle.bp_check.proofs.Reading.{nodes_from, nodes-whole, nodes-split, nodes-closed, nodes-open}
 use Rattle.bp_join.specs.Joined.{node_of, part_of}
-use Rattle.bp_revise.specs.Apart.{IsOfPairs, examined, open_paths}
+use Rattle.bp_revise.specs.Apart.{IsOfPairs}
 use Rattle.bp_revise.specs.Course.{IsBegun}
 use Rattle.bp_revise.proofs.NodeParts.{parts_same}
 use Rattle.bp_revise.proofs.PathPairs.{longer_pairs, no_pairs}

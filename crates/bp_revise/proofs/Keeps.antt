@@ -16,7 +16,7 @@ use Rattle.bp_base.specs.Limits.{most_proof_lines}
 use Rattle.bp_base.specs.Path.{IsPairOf}
 use Rattle.bp_base.specs.Tree.{TreeValue, IsTree, IsLeaf, leaf_count}
 use Rattle.bp_base.proofs.Bags.{equal, itself}
-use Rattle.bp_metric.specs.Chains.{ClaimHolds, IsChain}
+use Rattle.bp_metric.specs.Chains.{ClaimHolds}
 use Rattle.bp_metric.specs.Choices.{allowed}
 use Rattle.bp_metric.specs.Nodes.{Node, Part, counted, node_count_of, nodes_of, parts_of}
 use Rattle.bp_metric.specs.Refutation.{CanSplit, EachFits, Fits, extended}

@@ -1,5 +1,5 @@
 -- An old document that checks, and a tree of its shape: what the calls of a revision need, and what they come to.
-use Rattle.std.proofs.Common.{◌≡◌, ℕ, ◌+◌, ◌-◌, ◌/◌, ◌≤◌, min, List, [], length, All, refl, sym, ap, ◌∙◌, subst, arith}
+use Rattle.std.proofs.Common.{◌≡◌, ℕ, ◌+◌, ◌-◌, ◌/◌, ◌≤◌, min, List, [], length, All, sym, ap, ◌∙◌, subst, arith}
 use Rattle.bp_base.specs.declared.path.Step.{Step}
 use Rattle.bp_base.specs.declared.point.Placement.{Placement}
 use Rattle.bp_base.specs.declared.point.Sheet.{Sheet}
@@ -19,7 +19,7 @@ use Rattle.bp_check.specs.Written.{IsWanted}
 use Rattle.bp_revise.specs.Apart.{open_paths}
 use Rattle.bp_revise.specs.Course.{IsAtEnd, IsBegun, IsEnded, IsOnCourse, IsWrittenFrom}
 use Rattle.bp_revise.specs.Keep.{AreOfOneShape, kept_of}
-use Rattle.bp_revise.specs.Revised.{HasRoom, IsRevised, PartCounts, budget_beside}
+use Rattle.bp_revise.specs.Revised.{HasRoom, IsRevised, PartCounts}
 use Rattle.bp_revise.specs.Start.{IsStart}
 use Rattle.bp_revise.proofs.Documents.{is_revised}
 use Rattle.bp_revise.proofs.GoodNodes.{begun_many}

@@ -1,11 +1,11 @@
 -- Trees of one shape have the same leaves, and where they allow a pair as many choices they allow it the same ones.
-use Rattle.std.proofs.Common.{◌≡◌, ℕ, Bool, true, false, cond, List, [], ◌∷◌, length, refl, arith}
+use Rattle.std.proofs.Common.{◌≡◌, Bool, true, false, cond, List, [], ◌∷◌, length, refl, arith}
 use Rattle.bp_base.specs.declared.path.Choice.{Choice}
 use Rattle.bp_base.specs.declared.path.Choice.TheVariants.{Left, Right, Below, Above}
 use Rattle.bp_base.specs.declared.path.Pair.{Pair}
 use Rattle.bp_base.specs.declared.point.Sheet.{Sheet}
 use Rattle.bp_base.specs.declared.point.Sheet.TheVariants.{Square, Strip}
-use Rattle.bp_base.specs.Tree.{TreeValue, leaf_count, leaf_nodes, has_child}
+use Rattle.bp_base.specs.Tree.{TreeValue, leaf_count}
 use Rattle.bp_metric.specs.Choices.{allowed, are_late_twins, is_pair_of}
 use Rattle.bp_revise.specs.Keep.{AreOfOneShape}
 

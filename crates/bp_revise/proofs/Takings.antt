@@ -1,7 +1,7 @@
 -- A refutation is taken apart node by node.
-use Rattle.std.proofs.Common.{◌≡◌, ℕ, zero, suc, ◌+◌, ◌<◌, ◌≤◌, Bool, true, false, cond, List, [], ◌∷◌, ◌++◌, length, get_or, map, drop, refl, sym, ap, ◌∙◌, subst, arith, append_assoc, Some}
-use Rattle.std.specs.List.{filter, AllByRecursion}
-use Rattle.std.proofs.lemmas.List.{append-nil, drop_all, drop_more, length-map, map-append}
+use Rattle.std.proofs.Common.{◌≡◌, ℕ, zero, suc, ◌+◌, ◌<◌, ◌≤◌, List, [], ◌∷◌, ◌++◌, length, get_or, map, drop, refl, sym, ap, ◌∙◌, subst, arith, append_assoc, Some}
+use Rattle.std.specs.List.{filter}
+use Rattle.std.proofs.lemmas.List.{append-nil, drop_all, drop_more, map-append}
 use Rattle.std.proofs.lemmas.List.Elements.{filter-append}
 use Rattle.std.proofs.lemmas.Option.{get_or_from_slice_get}
 use Rattle.std.specs.Prelude.{slice_get}
@@ -12,21 +12,19 @@ use Rattle.bp_base.specs.declared.path.Step.{Step}
 use Rattle.bp_base.specs.declared.point.Sheet.{Sheet}
 use Rattle.bp_base.specs.declared.chain.Claim.{Claim}
 use Rattle.bp_base.specs.declared.record.Record.{Record}
-use Rattle.bp_base.specs.declared.record.RecordKind.{RecordKind}
 use Rattle.bp_base.specs.declared.record.Task.{Task}
 use Rattle.bp_base.specs.declared.refutation.Refutation.{Refutation}
 use Rattle.bp_base.specs.declared.refutation.Refutation.TheVariants.{Split, Closed, Open}
-use Rattle.bp_base.specs.Path.{IsPairOf}
-use Rattle.bp_base.specs.Tree.{TreeValue, IsTree, leaf_count}
+use Rattle.bp_base.specs.Tree.{TreeValue}
 use Rattle.bp_metric.specs.Choices.{allowed}
-use Rattle.bp_metric.specs.Nodes.{Node, Part, SplitOf, ClosedBy, OpenBy, child_nodes}
+use Rattle.bp_metric.specs.Nodes.{Node, SplitOf, ClosedBy, child_nodes}
 use Rattle.bp_metric.specs.Records.{paths_left}
 use Rattle.bp_metric.specs.Refutation.{CanSplit, EachFits, Fits, extended}
 use Rattle.bp_metric.proofs.Refutations.{fits-split}
 use Rattle.bp_check.specs.Written.{is_examined, is_open}
 use Rattle.bp_check.proofs.Reading.{next_nodes, nodes-split, nodes-closed, nodes-open}
-use Rattle.bp_join.specs.Joined.{node_of, part_of}
-use Rattle.bp_revise.specs.Apart.{IsOfPairs, examined, nodes_below, open_paths}
+use Rattle.bp_join.specs.Joined.{node_of}
+use Rattle.bp_revise.specs.Apart.{examined, nodes_below, open_paths}
 use Rattle.bp_revise.proofs.GoodNodes.{children_many}
 
 pub examined_append : (xs ys : List Node) → examined (xs ++ ys) ≡ examined xs ++ examined ys

@@ -1,5 +1,5 @@
 -- A kept proof taken apart: its split and closed nodes, and the paths of its open ones.
-use Rattle.std.specs.Prelude.{◌≡◌, ◌≢◌, List, AllPairs, filter, map}
+use Rattle.std.specs.Prelude.{◌≢◌, List, AllPairs, filter, map}
 use Rattle.bp_base.specs.declared.path.Step.{Step}
 use Rattle.bp_base.specs.declared.point.Sheet.{Sheet}
 use Rattle.bp_base.specs.declared.refutation.Refutation.{Refutation, fold-Refutation}

@@ -3,7 +3,6 @@ use Rattle.std.specs.Prelude.{◌≡◌, ◌⊎◌, ℕ, ◌<◌, ◌≤◌, Lis
 use Rattle.bp_base.specs.declared.path.Step.{Step}
 use Rattle.bp_base.specs.declared.point.Floor.{Floor}
 use Rattle.bp_base.specs.declared.point.Placement.{Placement}
-use Rattle.bp_base.specs.declared.point.Point.{Point}
 use Rattle.bp_base.specs.declared.point.Sheet.{Sheet}
 use Rattle.bp_base.specs.declared.record.Record.{Record}
 use Rattle.bp_base.specs.declared.record.Settled.{Settled}

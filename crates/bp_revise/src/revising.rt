@@ -3,7 +3,7 @@ ghost use Rattle.std.specs.Prelude.{◌≡◌, ◌≤◌, ℕ, [], IfOk, length}
 ghost use Rattle.bp_base.specs.declared.point.Placement.{Placement as AnyPlacement};
 ghost use Rattle.bp_base.specs.declared.refutation.Refutation.{Refutation as AnyRefutation};
 ghost use Rattle.bp_base.specs.Limits.{most_document_bytes};
-ghost use Rattle.bp_metric.specs.Metric.{IsSheet};
+ghost use Rattle.bp_metric.specs.Metric.{IsMetric, IsSheet};
 ghost use Rattle.bp_metric.specs.Nodes.{nodes_of};
 ghost use Rattle.bp_metric.specs.Refutation.{Fits};
 ghost use Rattle.bp_metric.specs.Valid.{NoneBelow, Valid};
@@ -46,18 +46,57 @@ pub fn revise(alloc: Global, tree: &Tree, old: Document, budget: u64) -> Result<
     ensures bound { IfOk result (λ D. D.bound ≤ D.side) }
     ensures smallest { IfOk result (λ D. D.bound ≡ D.side → IsWanted tree.now old.sheet D.side) }
 {
-    let metric = Metric::on(alloc, tree, old.sheet)?;
-    law_of_checks(&metric);
+    match Metric::on(alloc, tree, old.sheet) {
+        Ok(metric) => {
+            let revised = revise_on(alloc, &metric, tree, old, budget);
+            drop(metric);
+            revised
+        }
+        Err(error) => {
+            drop(old);
+            Err(error)
+        }
+    }
+}
+
+// The same on the metric of the tree and the old sheet.
+fn revise_on(
+    alloc: Global,
+    metric: &Metric,
+    _tree: &Tree,
+    old: Document,
+    budget: u64,
+) -> Result<Document, NoMemory>
+    requires checks { Checks old.tree old }
+    requires room { HasRoom old.proof }
+    requires shape { AreOfOneShape old.tree _tree.now }
+    requires value { metric.now ≡ record { tree = _tree.now; sheet = old.sheet } }
+    requires metric { IsMetric metric.now }
+    ensures revised { IfOk result (λ D. IsRevised _tree.now old budget D) }
+    ensures ranges { IfOk result (λ D. IsDocument D) }
+    ensures short { IfOk result (λ D. length (doc_text D) ≤ most_document_bytes) }
+    ensures none_below { IfOk result (λ D. NoneBelow _tree.now old.sheet D.bound) }
+    ensures bound { IfOk result (λ D. D.bound ≤ D.side) }
+    ensures smallest { IfOk result (λ D. D.bound ≡ D.side → IsWanted _tree.now old.sheet D.side) }
+{
+    law_of_checks(metric);
     law_of_checked_texts();
-    let floor = floor(alloc, &metric)?;
-    let Document { points, proof, .. } = old;
-    let start = start(alloc, &metric, points)?;
-    let kept = keep(alloc, &metric, start.side, proof)?;
-    let begun = begin(alloc, &metric, start, kept)?;
+    let Document {
+        points,
+        proof,
+        tree,
+        floor: given,
+        ..
+    } = old;
+    drop((tree, given));
+    let start = start(alloc, metric, points)?;
+    let kept = keep(alloc, metric, start.side, proof)?;
+    let begun = begin(alloc, metric, start, kept)?;
+    let floor = floor(alloc, metric)?;
     let nodes = (begun.records.len() + begun.left.len()) as u64;
     let room = (MOST_PROOF_LINES - nodes) / 4;
-    let settled = search(alloc, &metric, begun, floor.side, budget.min(room))?;
-    let document = document_of(alloc, &metric, settled, floor)?;
+    let settled = search(alloc, metric, begun, floor.side, budget.min(room))?;
+    let document = document_of(alloc, metric, settled, floor)?;
     Ok(document)
 }
 

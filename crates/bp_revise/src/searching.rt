@@ -24,25 +24,47 @@ pub fn search(
     ensures course { IfOk result (λ Z. (start : AnyPlacement) (base : List AnyRecord) (roots : List (List AnyStep)) → IsOnCourse metric.now.tree metric.now.sheet start base roots begun → IsOnCourse metric.now.tree metric.now.sheet start base roots Z) }
     ensures end { IfOk result (λ Z. IsAtEnd floor budget Z) }
 {
+    let mut examiner = match Examiner::open(alloc, metric) {
+        Ok(examiner) => examiner,
+        Err(error) => {
+            drop(begun);
+            return Err(error);
+        }
+    };
     let mut search = begun;
-    let mut examiner = Examiner::open(alloc, metric)?;
+    let worked = work_off(alloc, metric, &mut examiner, &mut search, floor, budget);
+    drop(examiner);
+    match worked {
+        Ok(()) => Ok(search),
+        Err(error) => {
+            drop(search);
+            Err(error)
+        }
+    }
+}
+
+// Examines branch by branch until the search is at its end.
+fn work_off(
+    alloc: Global,
+    metric: &Metric,
+    examiner: &mut Examiner,
+    search: &mut Settled,
+    floor: u64,
+    budget: u64,
+) -> Result<(), NoMemory>
+    requires metric { metric.now ≡ examiner.old }
+    requires course { (start : AnyPlacement) × (base : List AnyRecord) × (roots : List (List AnyStep)) × (start.side ≤ most_number) × (search.old.examined ≤ budget) × IsOnCourse metric.now.tree metric.now.sheet start base roots search.old }
+    ensures course { OnOk result ((start : AnyPlacement) (base : List AnyRecord) (roots : List (List AnyStep)) → IsOnCourse metric.now.tree metric.now.sheet start base roots search.old → IsOnCourse metric.now.tree metric.now.sheet start base roots search.new) }
+    ensures end { OnOk result (IsAtEnd floor budget search.new) }
+{
     let mut children = Sequence::new(alloc);
     while search.side > floor && search.examined < budget {
         match search.left.pop() {
-            None => return Ok(search),
-            Some(task) => {
-                work_on(
-                    alloc,
-                    metric,
-                    &mut examiner,
-                    &mut children,
-                    &mut search,
-                    task,
-                )?;
-            }
+            None => return Ok(()),
+            Some(task) => work_on(alloc, metric, examiner, &mut children, search, task)?,
         }
     }
-    Ok(search)
+    Ok(())
 }
 
 // Examines the branch in hand: it gets a record, and the search goes on with what follows of it. The list of children is empty before and

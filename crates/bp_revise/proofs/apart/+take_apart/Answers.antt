@@ -5,7 +5,6 @@ use Rattle.std.proofs.lemmas.Result.{on_ok_weaker}
 use Rattle.bp_base.specs.declared.record.Record.{Record}
 use Rattle.bp_base.specs.declared.record.RecordKind.TheVariants as sort
 use Rattle.bp_base.specs.declared.refutation.Refutation.{Refutation}
-use Rattle.bp_metric.specs.Choices.{allowed}
 use Rattle.bp_metric.specs.Nodes.{ClosedBy, node_count_of}
 use Rattle.bp_document.proofs.Nodes.{child_smaller}
 use Rattle.bp_revise.specs.declared.apart.Parts.{Parts}

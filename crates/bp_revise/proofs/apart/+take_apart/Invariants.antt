@@ -1,4 +1,4 @@
-use Rattle.std.proofs.Common.{◌≡◌, map}
+use Rattle.std.proofs.Common.{map}
 use Rattle.bp_metric.specs.Nodes.{node_count_of}
 use Rattle.bp_metric.specs.Records.{paths_left}
 use Rattle.bp_join.specs.Joined.{node_of}

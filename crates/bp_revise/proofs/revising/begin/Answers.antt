@@ -1,4 +1,4 @@
-use Rattle.std.proofs.Common.{◌≡◌, ◌∙◌, ◌++◌, [], map, refl, sym, subst}
+use Rattle.std.proofs.Common.{◌∙◌, ◌++◌, map, refl, sym, subst}
 use Rattle.bp_metric.specs.Records.{paths_left}
 use Rattle.bp_metric.specs.Refutation.{Fits}
 use Rattle.bp_join.specs.Joined.{node_of}

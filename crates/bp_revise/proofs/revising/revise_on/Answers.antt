@@ -1,25 +1,25 @@
 use Rattle.std.proofs.Common.{arith}
 use Rattle.bp_revise.specs.Course.{IsEnded, IsWrittenFrom}
 use Rattle.bp_revise.proofs.Revisions.{below_there, can_keep, can_search, ends, few_nodes, kept_there, points_each, revision, wanted_there}
-use Rattle.bp_revise.proofs.revising.revise.Goals as goal
+use Rattle.bp_revise.proofs.revising.revise_on.Goals as goal
 
 pub start-requires : goal.start-requires
-start-requires c = points_each c.in_ok-metric.metric c.in_ok-metric.ensures.metric c.args.tree.now c.args.old c.in_ok-metric.ensures.value c.requires.checks c.requires.room c.requires.shape
+start-requires c = points_each c.args.metric.now c.requires.metric c.args._tree.now c.args.old c.requires.value c.requires.checks c.requires.room c.requires.shape
 
 pub keep-requires : goal.keep-requires
-keep-requires c = can_keep c.in_ok-metric.metric c.in_ok-metric.ensures.metric c.args.tree.now c.args.old c.in_ok-metric.ensures.value c.requires.checks c.requires.room c.requires.shape
+keep-requires c = can_keep c.args.metric.now c.requires.metric c.args._tree.now c.args.old c.requires.value c.requires.checks c.requires.room c.requires.shape
 
 pub begin-requires-clause-fits : goal.begin-requires-clause-fits
 begin-requires-clause-fits c =
-    kept_there c.in_ok-metric.metric c.in_ok-metric.ensures.metric c.args.tree.now c.args.old c.in_ok-metric.ensures.value c.requires.checks c.requires.room c.requires.shape c.in_ok-start.start c.in_ok-kept.kept c.in_ok-kept.ensures
+    kept_there c.args.metric.now c.requires.metric c.args._tree.now c.args.old c.requires.value c.requires.checks c.requires.room c.requires.shape c.in_ok-start.start c.in_ok-kept.kept c.in_ok-kept.ensures
 
 pub overflow_sub-room : goal.overflow_sub-room
 overflow_sub-room c =
-    omega (arith, c.len.ensures, c.len-2.ensures, few_nodes c.in_ok-metric.metric c.in_ok-metric.ensures.metric c.args.tree.now c.args.old c.in_ok-metric.ensures.value c.requires.checks c.requires.room c.requires.shape c.in_ok-start.start c.in_ok-kept.kept c.in_ok-kept.ensures c.in_ok-start.ensures.small c.in_ok-begun.begun c.in_ok-begun.ensures.begun c.in_ok-begun.ensures.course c.in_ok-begun.ensures.none)
+    omega (arith, c.len.ensures, c.len-2.ensures, few_nodes c.args.metric.now c.requires.metric c.args._tree.now c.args.old c.requires.value c.requires.checks c.requires.room c.requires.shape c.in_ok-start.start c.in_ok-kept.kept c.in_ok-kept.ensures c.in_ok-start.ensures.small c.in_ok-begun.begun c.in_ok-begun.ensures.begun c.in_ok-begun.ensures.course c.in_ok-begun.ensures.none)
 
 pub search-requires : goal.search-requires
 search-requires c = record {
-  course = can_search c.in_ok-metric.metric c.in_ok-metric.ensures.metric c.args.tree.now c.args.old c.in_ok-metric.ensures.value c.requires.checks c.requires.room c.requires.shape c.in_ok-start.start c.in_ok-kept.kept c.in_ok-kept.ensures c.in_ok-start.ensures.small c.in_ok-begun.begun c.in_ok-begun.ensures.begun c.in_ok-begun.ensures.course c.in_ok-begun.ensures.none c.min.result;
+  course = can_search c.args.metric.now c.requires.metric c.args._tree.now c.args.old c.requires.value c.requires.checks c.requires.room c.requires.shape c.in_ok-start.start c.in_ok-kept.kept c.in_ok-kept.ensures c.in_ok-start.ensures.small c.in_ok-begun.begun c.in_ok-begun.ensures.begun c.in_ok-begun.ensures.course c.in_ok-begun.ensures.none c.min.result;
 }
 
 pub document_of-requires-clause-floor : goal.document_of-requires-clause-floor
@@ -27,16 +27,16 @@ document_of-requires-clause-floor c = record { floor = c.in_ok-floor.ensures.flo
 
 pub document_of-requires-clause-ended : goal.document_of-requires-clause-ended
 document_of-requires-clause-ended c =
-    let e = ends c.in_ok-metric.metric c.in_ok-metric.ensures.metric c.args.tree.now c.args.old c.in_ok-metric.ensures.value c.requires.checks c.requires.room c.requires.shape c.in_ok-start.start c.in_ok-kept.kept c.in_ok-kept.ensures c.in_ok-start.ensures.small c.in_ok-begun.begun c.in_ok-begun.ensures.begun c.in_ok-begun.ensures.course c.in_ok-begun.ensures.none c.args.budget c.in_ok-floor.floor.side c.min.result (omega (arith, c.min.ensures, c.len.ensures, c.len-2.ensures)) c.in_ok-settled.settled c.in_ok-settled.ensures.course c.in_ok-settled.ensures.end in
+    let e = ends c.args.metric.now c.requires.metric c.args._tree.now c.args.old c.requires.value c.requires.checks c.requires.room c.requires.shape c.in_ok-start.start c.in_ok-kept.kept c.in_ok-kept.ensures c.in_ok-start.ensures.small c.in_ok-begun.begun c.in_ok-begun.ensures.begun c.in_ok-begun.ensures.course c.in_ok-begun.ensures.none c.args.budget c.in_ok-floor.floor.side c.min.result (omega (arith, c.min.ensures, c.len.ensures, c.len-2.ensures)) c.in_ok-settled.settled c.in_ok-settled.ensures.course c.in_ok-settled.ensures.end in
     (c.args.budget, c.in_ok-start.start, c.in_ok-kept.kept, e)
 
 pub returns : goal.returns
 returns c =
-    let M = c.in_ok-metric.metric in
-    let m = c.in_ok-metric.ensures.metric in
-    let T = c.args.tree.now in
+    let M = c.args.metric.now in
+    let m = c.requires.metric in
+    let T = c.args._tree.now in
     let old = c.args.old in
-    let is = c.in_ok-metric.ensures.value in
+    let is = c.requires.value in
     let start = c.in_ok-start.start in
     let kept = c.in_ok-kept.kept in
     let side = c.in_ok-floor.floor.side in

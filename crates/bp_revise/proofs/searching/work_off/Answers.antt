@@ -1,8 +1,7 @@
-use Rattle.std.proofs.Common.{◌++◌, ◌∷◌, [], List, inl, inr, sym, ◌∙◌, subst, arith}
-use Rattle.bp_base.specs.declared.record.Settled.{Settled}
+use Rattle.std.proofs.Common.{List, inl, sym, ◌∙◌, subst, arith}
 use Rattle.bp_base.specs.declared.record.Task.{Task}
 use Rattle.bp_revise.specs.Course.{IsOnCourse}
-use Rattle.bp_revise.proofs.searching.search.Goals as goal
+use Rattle.bp_revise.proofs.searching.work_off.Goals as goal
 
 pub returns-in-None : goal.returns-in-None
 returns-in-None c =

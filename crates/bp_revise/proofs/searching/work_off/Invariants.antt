@@ -3,7 +3,7 @@ use Rattle.bp_base.specs.declared.path.Step.{Step}
 use Rattle.bp_base.specs.declared.point.Placement.{Placement}
 use Rattle.bp_base.specs.declared.record.Record.{Record}
 use Rattle.bp_revise.specs.Course.{IsOnCourse}
-use Rattle.bp_revise.proofs.searching.search.Given as goal
+use Rattle.bp_revise.proofs.searching.work_off.Given as goal
 
 abbrev pub invariant-loop-search : goal.invariant-loop-search
 invariant-loop-search l = record {
@@ -12,7 +12,7 @@ invariant-loop-search l = record {
   within : l.search.examined ≤ l.budget;
   course :
       (start : Placement) (base : List Record) (roots : List (List Step))
-      → IsOnCourse l.metric.tree l.metric.sheet start base roots l.fn.begun
+      → IsOnCourse l.metric.tree l.metric.sheet start base roots l.fn.search
       → IsOnCourse l.metric.tree l.metric.sheet start base roots l.search;
 }
 
