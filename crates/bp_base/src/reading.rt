@@ -1,5 +1,5 @@
 // A source is read to its end or to a limit, piece by piece.
-ghost use Rattle.std.specs.Prelude.{◌≡◌, ◌≤◌, ◌++◌, List, ℕ, length, IfOk, OnOk, Err};
+ghost use Rattle.std.specs.Prelude.{◌≡◌, ◌≤◌, ◌++◌, List, ℕ, length, IfOk, OnErr, OnOk, Err};
 ghost use Rattle.bp_base.specs.Causes.{Rose};
 ghost use Rattle.bp_base.specs.Reading.{HasRead, HasTakenAll, IsReadTo};
 
@@ -24,11 +24,15 @@ pub trait TakesBytes {
     /// What it has become by some bytes.
     ghost takes: { Self → List ℕ → Self → Type 0 };
 
+    /// Whether it may want memory.
+    ghost wants_memory: { Type 0 };
+
     /// Takes the next bytes.
     fn take(&mut self, bytes: &[u8]) -> Result<(), NoMemory>
         requires { is_open self.old }
         ensures still { OnOk result (is_open self.new) }
-        ensures takes { OnOk result (takes self.old bytes.now self.new) };
+        ensures takes { OnOk result (takes self.old bytes.now self.new) }
+        ensures memory { OnErr result wants_memory };
 }
 
 /// Gives all bytes of a source, or the first `most`, to what takes them, and says how many came.
@@ -42,6 +46,7 @@ pub fn read_into<S: Source, I: TakesBytes>(
     ensures taken { IfOk result (λ count. HasTakenAll I.takes most intake.old intake.new (S.left source.old) (S.left source.new) count) }
     ensures later { S.faults source.old ≤ S.faults source.new }
     ensures failed { result ≡ Err ReadError.Failed → Rose (S.faults source.old) (S.faults source.new) }
+    ensures memory { result ≡ Err ReadError.NoMemory → I.wants_memory }
 {
     let mut buffer = [0u8; PIECE as usize];
     let mut count = 0;
@@ -76,6 +81,8 @@ impl TakesBytes for Collected {
     ghost is_open = { λ c. Unit {0} };
 
     ghost takes = { λ c b d. d.bytes.items ≡ c.bytes.items ++ b };
+
+    ghost wants_memory = { Unit {0} };
 
     fn take(&mut self, bytes: &[u8]) -> Result<(), NoMemory> {
         self.bytes.extend_from_slice(bytes)?;

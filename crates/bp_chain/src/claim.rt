@@ -3,12 +3,13 @@ ghost use Rattle.std.specs.Prelude.{◌≡◌, ◌≢◌, ◌≤◌, ◌<◌, �
 ghost use Rattle.bp_metric.specs.Chains.{ArePlaced, ClaimHolds, IsChain, IsCycle};
 
 use crate::places::places;
-use bp_base::{Axis, Chain, Claim, Path};
+use crate::steps::Steps;
+use bp_base::{Axis, Chain, Claim};
 
 /// Whether the claim's list is a chain of this path on its axis, or a cycle, as it says, with leaf numbers from 1 to n.
 /// The numbers of the list may be any.
-pub fn claim_holds(path: &Path, n: u64, claim: &Claim) -> bool
-    ensures { IsTrue result ↔ ClaimHolds n path.now claim.now }
+pub fn claim_holds<P: Steps>(path: &P, n: u64, claim: &Claim) -> bool
+    ensures { IsTrue result ↔ ClaimHolds n (P.steps path.now) claim.now }
 {
     match claim {
         Claim::Walk { axis, chain } => is_chain(path, n, *axis, chain),
@@ -16,8 +17,8 @@ pub fn claim_holds(path: &Path, n: u64, claim: &Claim) -> bool
     }
 }
 
-fn is_cycle(path: &Path, n: u64, axis: Axis, chain: &Chain) -> bool
-    ensures { IsTrue result ↔ IsCycle n path.now axis chain.now }
+fn is_cycle<P: Steps>(path: &P, n: u64, axis: Axis, chain: &Chain) -> bool
+    ensures { IsTrue result ↔ IsCycle n (P.steps path.now) axis chain.now }
 {
     if !is_chain(path, n, axis, chain) || chain.len() < 2 {
         return false;
@@ -25,8 +26,8 @@ fn is_cycle(path: &Path, n: u64, axis: Axis, chain: &Chain) -> bool
     places(path, axis, chain.at(chain.len() - 1), chain.at(0))
 }
 
-fn is_chain(path: &Path, n: u64, axis: Axis, chain: &Chain) -> bool
-    ensures { IsTrue result ↔ IsChain n path.now axis chain.now }
+fn is_chain<P: Steps>(path: &P, n: u64, axis: Axis, chain: &Chain) -> bool
+    ensures { IsTrue result ↔ IsChain n (P.steps path.now) axis chain.now }
 {
     if !are_leaves(chain, n) {
         return false;
@@ -79,8 +80,8 @@ fn stands_before(chain: &Chain, k: u64) -> bool
 }
 
 // Whether each leaf is placed before the next.
-fn are_placed(path: &Path, axis: Axis, chain: &Chain) -> bool
-    ensures { IsTrue result ↔ ArePlaced path.now axis chain.now }
+fn are_placed<P: Steps>(path: &P, axis: Axis, chain: &Chain) -> bool
+    ensures { IsTrue result ↔ ArePlaced (P.steps path.now) axis chain.now }
 {
     for k in 1..chain.len() {
         if !places(path, axis, chain.at(k - 1), chain.at(k)) {

@@ -4,8 +4,10 @@
 mod claim;
 mod counting;
 mod places;
+mod steps;
 mod weighing;
 
 pub use claim::claim_holds;
 pub use counting::counted;
+pub use steps::Steps;
 pub use weighing::weight;

@@ -2,11 +2,12 @@
 ghost use Rattle.std.specs.Prelude.{◌≡◌, ◌↔◌, IsTrue};
 ghost use Rattle.bp_metric.specs.Chains.{Places, PlacesBy};
 
-use bp_base::{Axis, Choice, Path, Step};
+use crate::steps::Steps;
+use bp_base::{Axis, Choice, Step};
 
 // Whether some step of the path places leaf a before leaf b on the axis.
-pub fn places(path: &Path, axis: Axis, a: u64, b: u64) -> bool
-    ensures { IsTrue result ↔ Places path.now axis a b }
+pub fn places<P: Steps>(path: &P, axis: Axis, a: u64, b: u64) -> bool
+    ensures { IsTrue result ↔ Places (P.steps path.now) axis a b }
 {
     for k in 0..path.len() {
         if places_by(axis, a, b, path.at(k)) {

@@ -1,7 +1,6 @@
 -- Bytes that are taken in, line by line.
 use Rattle.std.proofs.Common.{◌≡◌, ◌≢◌, ◌⊎◌, ℕ, ◌+◌, ◌-◌, ◌≤◌, inl, inr, true, false, cond, Bool, List, [], ◌∷◌, ◌++◌, length, take, drop, All, Option, None, Some, Result, Ok, Err, refl, sym, ◌∙◌, ap, subst, arith, append_assoc, length-append}
 use Rattle.std.specs.Option.{is_some}
-use Rattle.std.specs.Result.{OnOk}
 use Rattle.std.proofs.lemmas.Bool.{cases_lt, true≢false}
 use Rattle.std.proofs.lemmas.List.{append-nil, take_all, length-take, nil_from_length}
 use Rattle.std.proofs.lemmas.List.Elements.{All-take, All-append}
@@ -191,14 +190,13 @@ module _ (p : Intake) (P : Progress) (now : List ℕ) (whole : p.fault ≡ None)
       let so_far = taken_in_whole passing.0 p passing.1 whole passing.2 in
       (passing.0, so_far.0 ++ (so_far.1 ++ 10 ∷ []), so_far.2, line_scanned passing.0 p P now so_far.0 so_far.1 so_far.2 (Some l) so_far.6 so_far.4 law fed)
 
-  pub node_judged : {X E : Type 0} (r : Result X E) (q : Intake) (l : NodeLine) → FeedsLine p.scanner p.held true P (Ok (Some l))
-      → OnOk r ((T : TreeValue) (text : List ℕ) (ns : List NodeLine) → IsScanned T (fed_on p P now) text (ns ++ l ∷ []) ns → IsScanned T q text (ns ++ l ∷ []) (ns ++ l ∷ []))
-      → OnOk r (q.held ≡ now) → OnOk r (q.fault ≡ p.fault) → OnOk r (Takes p q (10 ∷ []))
-  node_judged (Ok x) q l fed judges held fault = λ T before passed.
+  pub node_judged : (q : Intake) (l : NodeLine) → FeedsLine p.scanner p.held true P (Ok (Some l))
+      → ((T : TreeValue) (text : List ℕ) (ns : List NodeLine) → IsScanned T (fed_on p P now) text (ns ++ l ∷ []) ns → IsScanned T q text (ns ++ l ∷ []) (ns ++ l ∷ []))
+      → q.held ≡ now → q.fault ≡ p.fault → Takes p q (10 ∷ [])
+  node_judged q l fed judges held fault = λ T before passed.
       let so_far = taken_in_whole T p before whole passed in
       line_taken_in T q before so_far.0 so_far.1 (so_far.2 ++ l ∷ []) so_far.3 (held ∙ empty) (fault ∙ whole)
       (judges T (so_far.0 ++ (so_far.1 ++ 10 ∷ [])) so_far.2 (line_scanned T p P now so_far.0 so_far.1 so_far.2 (Some l) so_far.6 so_far.4 law fed))
-  node_judged (Err e) q l fed judges held fault = tt
 
 pub line_refused : (p q : Intake) (P : Progress) (f : DocFault) → p.fault ≡ None → ((line : List ℕ) → HasSameFault p.held line) → FeedsLine p.scanner p.held true P (Err f) → q.fault ≡ Some f → Takes p q (10 ∷ [])
 line_refused p q P f whole law fed is T before passed =

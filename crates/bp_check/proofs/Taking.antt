@@ -1,6 +1,5 @@
 -- The lines that a stack has taken, one after the other.
-use Rattle.std.proofs.Common.{◌≡◌, ◌&&◌, ◌+◌, true, false, cond, not, List, [], ◌∷◌, ◌++◌, None, Some, Result, Ok, Err, refl, sym, ap, ◌∙◌, subst, arith, length-append}
-use Rattle.std.specs.Result.{OnOk}
+use Rattle.std.proofs.Common.{◌≡◌, ◌&&◌, ◌+◌, true, false, cond, not, List, [], ◌∷◌, ◌++◌, None, Some, refl, sym, ap, ◌∙◌, subst, arith, length-append}
 use Rattle.bp_base.specs.declared.path.Pair.{Pair}
 use Rattle.bp_base.specs.declared.point.Sheet.{Sheet}
 use Rattle.bp_base.specs.declared.chain.Claim.{Claim}
@@ -74,10 +73,9 @@ module _ (T : TreeValue) (G : Sheet) where
       subst (IsFoundOf T G None) (sym found) (found_is T G None)
 
   -- as the code has it: the call of a line's kind
-  pub feeds : {X E : Type 0} (r : Result X E) (S N : Stack) (line : NodeLine) (kind : NodeKind) → line.kind ≡ kind → OnOk r (N ≡ with_node T G kind (entered T G line.depth (closed T G line.depth S))) → OnOk r (IsStack T G N) → OnOk r ((lines : List NodeLine) → HasTaken T G S lines → HasTaken T G N (lines ++ line ∷ []))
-  feeds (Ok x) S N line kind is now kept =
+  pub feeds : (S N : Stack) (line : NodeLine) (kind : NodeKind) → line.kind ≡ kind → N ≡ with_node T G kind (entered T G line.depth (closed T G line.depth S)) → IsStack T G N → (lines : List NodeLine) → HasTaken T G S lines → HasTaken T G N (lines ++ line ∷ [])
+  feeds S N line kind is now kept =
       takes S N line (now ∙ ap (λ (k : NodeKind). with_node T G k (entered T G line.depth (closed T G line.depth S))) (sym is)) kept
-  feeds (Err e) S N line kind is now kept = tt
 
-  pub feeds_open : {X E : Type 0} (r : Result X E) (S N : Stack) (line : NodeLine) (claim : Claim) → line.kind ≡ Open claim → OnOk r (N ≡ with_node T G (Closed claim) (entered T G line.depth (closed T G line.depth S))) → OnOk r (IsStack T G N) → OnOk r ((lines : List NodeLine) → HasTaken T G S lines → HasTaken T G N (lines ++ line ∷ []))
-  feeds_open r S N line claim is now kept = feeds r S N line (Open claim) is now kept
+  pub feeds_open : (S N : Stack) (line : NodeLine) (claim : Claim) → line.kind ≡ Open claim → N ≡ with_node T G (Closed claim) (entered T G line.depth (closed T G line.depth S)) → IsStack T G N → (lines : List NodeLine) → HasTaken T G S lines → HasTaken T G N (lines ++ line ∷ [])
+  feeds_open S N line claim is now kept = feeds S N line (Open claim) is now kept

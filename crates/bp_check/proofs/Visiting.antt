@@ -1,6 +1,5 @@
 -- Steps of the walk of a refutation.
 use Rattle.std.proofs.Common.{◌≡◌, ℕ, ◌+◌, ◌*◌, ◌<◌, List, [], ◌∷◌, ◌++◌, length, sym, ap, ◌∙◌, arith, length-append, append_assoc, Result, Ok, Err}
-use Rattle.std.specs.Result.{OnOk}
 use Rattle.std.specs.List.{flat_map}
 use Rattle.std.proofs.lemmas.List.{append-nil}
 use Rattle.bp_base.specs.declared.path.Pair.{Pair}
@@ -93,11 +92,3 @@ module _ (levels new : List Level) (level rest : Level) (first : Refutation) (rs
   pub first_child_less : (size : ℕ) → size < size_to_come new + 2 * length (node_list first (length new)) → size < size_to_come (levels ++ level ∷ [])
   first_child_less size less =
       omega (arith, less, ap length first_child, length-append (node_list first (length new)) (lines_to_come new), ap length pushed, length-append levels (rest ∷ []), length-append levels (level ∷ []))
-
-pub at_ok : {X E : Type 0} {P Q : Type 0} (r : Result X E) → (P → Q) → OnOk r P → OnOk r Q
-at_ok (Ok x) f is = f is
-at_ok (Err e) f is = is
-
-pub always_ok : {X E : Type 0} {Q : Type 0} (r : Result X E) → Q → OnOk r Q
-always_ok (Ok x) q = q
-always_ok (Err e) q = tt

@@ -1,5 +1,5 @@
 // A document that is checked while its bytes come.
-ghost use Rattle.std.specs.Prelude.{◌≡◌, ◌≢◌, ◌⊎◌, ◌≤◌, ◌++◌, [], ◌∷◌, length, All, None, Some, IfOk, OnOk, List, ℕ};
+ghost use Rattle.std.specs.Prelude.{◌≡◌, ◌≢◌, ◌⊎◌, ◌≤◌, ◌++◌, [], ◌∷◌, length, All, None, Some, IfOk, List, ℕ};
 ghost use Rattle.bp_base.specs.Limits.{most_document_bytes};
 ghost use Rattle.bp_base.specs.Tree.{TreeValue, leaf_count};
 ghost use Rattle.bp_document.specs.declared.document.Document.{Document as AnyDocument};
@@ -55,49 +55,45 @@ impl Intake {
     }
 
     // Takes a part of a line, and its LF where it is there.
-    fn take_part(&mut self, part: &[u8], ended: bool) -> Result<(), NoMemory>
+    fn take_part(&mut self, part: &[u8], ended: bool)
         requires underway { IsUnderway self.old }
         requires free { All (λ b. b ≢ 10) part.now }
-        ensures { OnOk result (Takes self.old self.new (part.now ++ end_of ended)) }
+        ensures { Takes self.old self.new (part.now ++ end_of ended) }
     {
         if self.fault.is_some() {
-            return Ok(());
+            return;
         }
         self.held.extend(part);
         if ended {
-            self.end_line()?;
+            self.end_line();
         }
-        Ok(())
     }
 
     // The line that is held has its LF. A long line has the fault of its first bytes.
-    fn end_line(&mut self) -> Result<(), NoMemory>
+    fn end_line(&mut self)
         requires underway { IsUnderway self.old }
         requires whole { self.old.fault ≡ None }
-        ensures { OnOk result (Takes self.old self.new (10 ∷ [])) }
+        ensures { Takes self.old self.new (10 ∷ []) }
     {
         law_of_long_lines();
         let scanned = self.scanner.feed(self.held.as_slice(), true);
         self.held.clear();
         match scanned {
-            Ok(None) => Ok(()),
+            Ok(None) => {}
             Ok(Some(node)) => self.judge(node),
-            Err(fault) => {
-                self.fault = Some(fault);
-                Ok(())
-            }
+            Err(fault) => self.fault = Some(fault),
         }
     }
 
     // Judges the node that the last line gave.
-    fn judge(&mut self, node: NodeLine) -> Result<(), NoMemory>
+    fn judge(&mut self, node: NodeLine)
         requires ahead { IsAhead self.old node }
-        ensures judged { OnOk result ((T : TreeValue) (text : List ℕ) (ns : List AnyLine) → IsScanned T self.old text (ns ++ node ∷ []) ns → IsScanned T self.new text (ns ++ node ∷ []) (ns ++ node ∷ [])) }
-        ensures held { OnOk result (self.new.held ≡ self.old.held) }
-        ensures fault { OnOk result (self.new.fault ≡ self.old.fault) }
+        ensures judged { (T : TreeValue) (text : List ℕ) (ns : List AnyLine) → IsScanned T self.old text (ns ++ node ∷ []) ns → IsScanned T self.new text (ns ++ node ∷ []) (ns ++ node ∷ []) }
+        ensures held { self.new.held ≡ self.old.held }
+        ensures fault { self.new.fault ≡ self.old.fault }
     {
         self.set_sheet();
-        self.stack.feed(&self.metric, &node)
+        self.stack.feed(&self.metric, &node);
     }
 
     // Puts the metric on the sheet of the document, where it is told. No node is judged before.
@@ -175,12 +171,14 @@ impl TakesBytes for Intake {
 
     ghost takes = { λ p bytes q. Takes p q bytes };
 
+    ghost wants_memory = { ⊥ };
+
     // After a fault the bytes are passed over.
     fn take(&mut self, bytes: &[u8]) -> Result<(), NoMemory> {
         let mut at = 0;
         while let Some(here) = line(bytes, at) {
             let part = &bytes[here.from as usize..here.to as usize];
-            self.take_part(part, here.ended)?;
+            self.take_part(part, here.ended);
             at = here.next;
         }
         Ok(())

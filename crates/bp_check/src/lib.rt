@@ -2,6 +2,7 @@
 #![tactic(auto)]
 
 mod checking;
+mod depths;
 mod fault;
 mod found;
 mod held;

@@ -1,5 +1,5 @@
 // The stack of open splits, which both calls feed with the nodes of a proof in preorder.
-ghost use Rattle.std.specs.Prelude.{◌≡◌, ◌<◌, ◌+◌, ◌-◌, ◌^◌, ◌++◌, ◌∷◌, [], List, length, not, ◌&&◌, None, Some, IsTrue, IfOk, OnOk};
+ghost use Rattle.std.specs.Prelude.{◌≡◌, ◌<◌, ◌+◌, ◌-◌, ◌^◌, ◌++◌, ◌∷◌, [], List, length, not, ◌&&◌, None, Some, IsTrue, IfOk};
 ghost use Rattle.bp_base.specs.Path.{IsPairOf};
 ghost use Rattle.bp_base.specs.Tree.{TreeValue, leaf_count};
 ghost use Rattle.bp_base.specs.declared.point.Sheet.{Sheet as AnySheet};
@@ -12,9 +12,10 @@ ghost use Rattle.bp_document.specs.Told.{node_list};
 ghost use Rattle.bp_check.specs.Verdicts.{IsFoundOf};
 ghost use Rattle.bp_check.specs.Tests.{may_split, stands_on};
 
+use crate::depths::Depths;
 use crate::found::{Found, joined};
-use bp_base::{Choice, Claim, MOST_STEPS, NoMemory, Pair, Path, Sequence, Step};
-use bp_chain::{claim_holds, counted};
+use bp_base::{Choice, Claim, NoMemory, Pair, Step};
+use bp_chain::{Steps, claim_holds, counted};
 use bp_document::{NodeKind, NodeLine};
 use bp_metric::Metric;
 use bp_pairs::allowed;
@@ -32,8 +33,8 @@ pub struct OpenSplit {
 /// was found of them. Once a split is bad no further one is opened, since no path is defined below it.
 #[derive(Drop)]
 pub struct Stack {
-    pub path: Path,
-    pub splits: Sequence<OpenSplit>,
+    pub path: Depths<Step>,
+    pub splits: Depths<OpenSplit>,
     pub count: u64,
     pub found: Found,
 }
@@ -45,21 +46,22 @@ impl Stack {
         ensures taken { IfOk result (λ s. (T : TreeValue) (G : AnySheet) → HasTaken T G s []) }
         ensures kept { IfOk result (λ s. (T : TreeValue) (G : AnySheet) → IsStack T G s) }
     {
-        let splits = Vec::with_capacity(alloc, MOST_STEPS as usize)?;
+        let path = Depths::new(alloc)?;
+        let splits = Depths::new(alloc)?;
         Ok(Stack {
-            path: long_path(alloc)?,
-            splits: Sequence::from_vec(splits),
+            path,
+            splits,
             count: 0,
             found: Found::Sound { weight: None },
         })
     }
 
-    /// Takes the next node of a proof, by its line. After NoMemory the stack is of no use.
-    pub fn feed(&mut self, metric: &Metric, line: &NodeLine) -> Result<(), NoMemory>
+    /// Takes the next node of a proof, by its line.
+    pub fn feed(&mut self, metric: &Metric, line: &NodeLine)
         requires kept { IsStack metric.now.tree metric.now.sheet self.old }
         requires room { self.old.count + 1 < 2 ^ 64 }
-        ensures kept { OnOk result (IsStack metric.now.tree metric.now.sheet self.new) }
-        ensures taken { OnOk result ((lines : List AnyLine) → HasTaken metric.now.tree metric.now.sheet self.old lines → HasTaken metric.now.tree metric.now.sheet self.new (lines ++ line.now ∷ [])) }
+        ensures kept { IsStack metric.now.tree metric.now.sheet self.new }
+        ensures taken { (lines : List AnyLine) → HasTaken metric.now.tree metric.now.sheet self.old lines → HasTaken metric.now.tree metric.now.sheet self.new (lines ++ line.now ∷ []) }
     {
         match &line.kind {
             NodeKind::Split { pair } => self.feed_split(metric, line.depth, *pair),
@@ -68,29 +70,28 @@ impl Stack {
         }
     }
 
-    /// Takes the next node, a split. After NoMemory the stack is of no use.
-    pub fn feed_split(&mut self, metric: &Metric, depth: u64, pair: Pair) -> Result<(), NoMemory>
+    /// Takes the next node, a split.
+    pub fn feed_split(&mut self, metric: &Metric, depth: u64, pair: Pair)
         requires kept { IsStack metric.now.tree metric.now.sheet self.old }
         requires room { self.old.count + 1 < 2 ^ 64 }
-        ensures fed { OnOk result (self.new ≡ fed metric.now.tree metric.now.sheet self.old (record { depth = depth; kind = SplitKind pair })) }
-        ensures kept { OnOk result (IsStack metric.now.tree metric.now.sheet self.new) }
+        ensures fed { self.new ≡ fed metric.now.tree metric.now.sheet self.old (record { depth = depth; kind = SplitKind pair }) }
+        ensures kept { IsStack metric.now.tree metric.now.sheet self.new }
     {
         self.close(metric, depth);
-        self.enter(metric, depth)?;
-        self.add_split(metric, pair)
+        self.enter(metric, depth);
+        self.add_split(metric, pair);
     }
 
-    /// Takes the next node, a proof leaf, by its claim. After NoMemory the stack is of no use.
-    pub fn feed_claim(&mut self, metric: &Metric, depth: u64, claim: &Claim) -> Result<(), NoMemory>
+    /// Takes the next node, a proof leaf, by its claim.
+    pub fn feed_claim(&mut self, metric: &Metric, depth: u64, claim: &Claim)
         requires kept { IsStack metric.now.tree metric.now.sheet self.old }
         requires room { self.old.count + 1 < 2 ^ 64 }
-        ensures fed { OnOk result (self.new ≡ fed metric.now.tree metric.now.sheet self.old (record { depth = depth; kind = ClosedKind claim.now })) }
-        ensures kept { OnOk result (IsStack metric.now.tree metric.now.sheet self.new) }
+        ensures fed { self.new ≡ fed metric.now.tree metric.now.sheet self.old (record { depth = depth; kind = ClosedKind claim.now }) }
+        ensures kept { IsStack metric.now.tree metric.now.sheet self.new }
     {
         self.close(metric, depth);
-        self.enter(metric, depth)?;
+        self.enter(metric, depth);
         self.add_claim(metric, claim);
-        Ok(())
     }
 
     /// What was found of the nodes, once the lines of a whole proof are fed, or nothing where there is none.
@@ -111,7 +112,7 @@ impl Stack {
         ensures kept { IsStack metric.now.tree metric.now.sheet self.new }
         ensures count { self.new.count ≡ self.old.count }
     {
-        while depth < self.splits.len() as u64 {
+        while depth < self.splits.len() {
             self.close_last(metric);
         }
     }
@@ -125,59 +126,57 @@ impl Stack {
         ensures less { length self.new.splits < length self.old.splits }
     {
         if let Some(split) = self.splits.pop() {
-            let _step = self.path.pop();
+            let _step = self.path.take_last();
             self.found = joined(self.found, found_count(metric, split));
         }
     }
 
     // The next node is a child of the last split where its depth is that of such a child.
-    fn enter(&mut self, metric: &Metric, depth: u64) -> Result<(), NoMemory>
+    fn enter(&mut self, metric: &Metric, depth: u64)
         requires kept { IsStack metric.now.tree metric.now.sheet self.old }
         requires room { self.old.count + 1 < 2 ^ 64 }
-        ensures entered { OnOk result (self.new ≡ entered metric.now.tree metric.now.sheet depth self.old) }
-        ensures kept { OnOk result (KeepsWithin metric.now.tree metric.now.sheet (self.old.count + 1) self.new) }
-        ensures count { OnOk result (self.new.count ≡ self.old.count) }
+        ensures entered { self.new ≡ entered metric.now.tree metric.now.sheet depth self.old }
+        ensures kept { KeepsWithin metric.now.tree metric.now.sheet (self.old.count + 1) self.new }
+        ensures count { self.new.count ≡ self.old.count }
     {
-        if self.splits.len() as u64 == depth {
-            self.enter_last(metric)?;
+        if self.splits.len() == depth {
+            self.enter_last(metric);
         }
-        Ok(())
     }
 
     // The last split has one more child.
-    fn enter_last(&mut self, metric: &Metric) -> Result<(), NoMemory>
+    fn enter_last(&mut self, metric: &Metric)
         requires kept { IsStack metric.now.tree metric.now.sheet self.old }
         requires room { self.old.count + 1 < 2 ^ 64 }
-        ensures entered { OnOk result (self.new ≡ stack_of metric.now.tree metric.now.sheet (with_child self.old.splits) self.old.count self.old.found) }
-        ensures kept { OnOk result (KeepsWithin metric.now.tree metric.now.sheet (self.old.count + 1) self.new) }
+        ensures entered { self.new ≡ stack_of metric.now.tree metric.now.sheet (with_child self.old.splits) self.old.count self.old.found }
+        ensures kept { KeepsWithin metric.now.tree metric.now.sheet (self.old.count + 1) self.new }
     {
         let _leaves = metric.leaves();
         if let Some(split) = self.splits.pop() {
-            let _step = self.path.pop();
+            let _step = self.path.take_last();
             let next = OpenSplit {
                 pair: split.pair,
                 node: split.node,
                 seen: split.seen + 1,
             };
-            self.path.push(step_of(metric, next))?;
-            self.splits.push(next)?;
+            self.path.push(step_of(metric, next));
+            self.splits.push(next);
         }
-        Ok(())
     }
 
     // The next node is a split. It is opened where it is good so far.
-    fn add_split(&mut self, metric: &Metric, pair: Pair) -> Result<(), NoMemory>
+    fn add_split(&mut self, metric: &Metric, pair: Pair)
         requires kept { KeepsWithin metric.now.tree metric.now.sheet (self.old.count + 1) self.old }
         requires room { self.old.count + 1 < 2 ^ 64 }
-        ensures split { OnOk result (self.new ≡ with_split metric.now.tree metric.now.sheet pair self.old) }
-        ensures kept { OnOk result (IsStack metric.now.tree metric.now.sheet self.new) }
+        ensures split { self.new ≡ with_split metric.now.tree metric.now.sheet pair self.old }
+        ensures kept { IsStack metric.now.tree metric.now.sheet self.new }
     {
         if self.may_open(metric, pair) {
-            return self.open_split(metric, pair);
+            self.open_split(metric, pair);
+            return;
         }
         self.found = joined(self.found, Found::WrongSplit { node: self.count });
         self.count += 1;
-        Ok(())
     }
 
     fn may_open(&self, metric: &Metric, pair: Pair) -> bool
@@ -186,12 +185,12 @@ impl Stack {
         !is_wrong(self.found) && may_split(metric.leaves(), &self.path, pair)
     }
 
-    fn open_split(&mut self, metric: &Metric, pair: Pair) -> Result<(), NoMemory>
+    fn open_split(&mut self, metric: &Metric, pair: Pair)
         requires kept { KeepsWithin metric.now.tree metric.now.sheet (self.old.count + 1) self.old }
         requires room { self.old.count + 1 < 2 ^ 64 }
         requires good { IsTrue (may_split (leaf_count metric.now.tree) self.old.path pair) }
-        ensures split { OnOk result (self.new ≡ stack_of metric.now.tree metric.now.sheet (self.old.splits ++ opened self.old.count pair ∷ []) (self.old.count + 1) self.old.found) }
-        ensures kept { OnOk result (IsStack metric.now.tree metric.now.sheet self.new) }
+        ensures split { self.new ≡ stack_of metric.now.tree metric.now.sheet (self.old.splits ++ opened self.old.count pair ∷ []) (self.old.count + 1) self.old.found }
+        ensures kept { IsStack metric.now.tree metric.now.sheet self.new }
     {
         let _leaves = metric.leaves();
         let split = OpenSplit {
@@ -199,10 +198,9 @@ impl Stack {
             node: self.count,
             seen: 0,
         };
-        self.path.push(step_of(metric, split))?;
-        self.splits.push(split)?;
+        self.path.push(step_of(metric, split));
+        self.splits.push(split);
         self.count += 1;
-        Ok(())
     }
 
     // The next node has a claim.
@@ -218,7 +216,7 @@ impl Stack {
 }
 
 // What is found with the claim of a node at the end of the path. It isn't looked at where a split is bad.
-fn joined_claim(metric: &Metric, found: Found, node: u64, path: &Path, claim: &Claim) -> Found
+fn joined_claim(metric: &Metric, found: Found, node: u64, path: &Depths<Step>, claim: &Claim) -> Found
     ensures { result ≡ joined_claim metric.now.tree metric.now.sheet found node path.now claim.now }
 {
     if is_wrong(found) {
@@ -267,7 +265,7 @@ fn found_count(metric: &Metric, split: OpenSplit) -> Found
 }
 
 // What is found of the claim of a node at the end of the path.
-fn found_claim(metric: &Metric, node: u64, path: &Path, claim: &Claim) -> Found
+fn found_claim(metric: &Metric, node: u64, path: &Depths<Step>, claim: &Claim) -> Found
     ensures { result ≡ found_claim metric.now.tree metric.now.sheet node path.now claim.now }
 {
     if claim_holds(path, metric.leaves(), claim) {
@@ -281,13 +279,13 @@ fn found_claim(metric: &Metric, node: u64, path: &Path, claim: &Claim) -> Found
 
 // Whether the pair is one of n leaves that isn't on the path.
 #[tactic(auto, unfolding(crate::specs::Tests::may_split))]
-fn may_split(n: u64, path: &Path, pair: Pair) -> bool
+fn may_split(n: u64, path: &Depths<Step>, pair: Pair) -> bool
     ensures { result ≡ may_split n path.now pair }
 {
     1 <= pair.i && pair.i < pair.j && pair.j <= n && !stands_on(path, pair)
 }
 
-fn stands_on(path: &Path, pair: Pair) -> bool
+fn stands_on(path: &Depths<Step>, pair: Pair) -> bool
     ensures { result ≡ stands_on path.now pair }
 {
     for k in 0..path.len() {
@@ -297,20 +295,4 @@ fn stands_on(path: &Path, pair: Pair) -> bool
         }
     }
     false
-}
-
-// A path without steps that has grown to the most it may have, so that later steps find its memory there.
-fn long_path(alloc: Global) -> Result<Path, NoMemory>
-    ensures { IfOk result (λ p. p ≡ []) }
-{
-    let mut path = Path::empty(alloc);
-    let pair = Pair { i: 1, j: 2 };
-    let choice = Choice::Left;
-    for _ in 0..MOST_STEPS {
-        path.push(Step { pair, choice })?;
-    }
-    while path.len() > 0 {
-        path.pop();
-    }
-    Ok(path)
 }

@@ -2,7 +2,7 @@
 ghost use Rattle.std.specs.Prelude.{◌≡◌, ◌≤◌, [], IfErr};
 ghost use Rattle.bp_base.specs.Causes.{Rose};
 ghost use Rattle.bp_base.specs.Tree.{TreeValue};
-ghost use Rattle.bp_check.specs.declared.fault.CheckFault.TheVariants.{Read as ReadFault};
+ghost use Rattle.bp_check.specs.declared.fault.CheckFault.TheVariants.{NoMemory as NoRoom, Read as ReadFault};
 ghost use Rattle.bp_check.specs.Intake.{HasTakenIn, IsUnderway};
 ghost use Rattle.bp_check.specs.Streams.{Streams};
 
@@ -15,7 +15,7 @@ use std::alloc::Global;
 const MOST_READ: u64 = MOST_DOCUMENT_BYTES + 1;
 
 /// Whether the document that a source holds is a right design of the tree, in one intake. It holds one line, one path and one entry for each
-/// open split, and takes all its memory before the first read. The source is read to its end, or to one byte past the limit of a document,
+/// open split, and takes all its memory before the first read: with NoMemory nothing was read. The source is read to its end, or to one byte past the limit of a document,
 /// also after a fault, since a text that is too long has that fault first.
 pub fn check_source<D: Source>(
     alloc: Global,
@@ -24,6 +24,7 @@ pub fn check_source<D: Source>(
 ) -> Result<Streamed, CheckFault>
     ensures streams { Streams tree.now (D.left source.old) (D.left source.new) result }
     ensures read { IfErr result (λ f. f ≡ ReadFault → Rose (D.faults source.old) (D.faults source.new)) }
+    ensures unread { IfErr result (λ f. f ≡ NoRoom → source.new ≡ source.old) }
     ensures later { D.faults source.old ≤ D.faults source.new }
 {
     let mut intake = Intake::open(alloc, tree)?;
@@ -38,6 +39,7 @@ fn check_all<D: Source>(intake: &mut Intake, source: &mut D) -> Result<Streamed,
     requires underway { IsUnderway intake.old }
     ensures streams { (T : TreeValue) → HasTakenIn T intake.old [] → Streams T (D.left source.old) (D.left source.new) result }
     ensures read { IfErr result (λ f. f ≡ ReadFault → Rose (D.faults source.old) (D.faults source.new)) }
+    ensures memory { IfErr result (λ f. f ≡ NoRoom → ⊥) }
     ensures later { D.faults source.old ≤ D.faults source.new }
 {
     match read_into(source, intake, MOST_READ) {
@@ -46,6 +48,6 @@ fn check_all<D: Source>(intake: &mut Intake, source: &mut D) -> Result<Streamed,
             Err(fault) => Err(CheckFault::Doc(fault)),
         },
         Err(ReadError::Failed) => Err(CheckFault::Read),
-        Err(ReadError::NoMemory) => Err(CheckFault::NoMemory),
+        Err(ReadError::NoMemory) => unreachable!(),
     }
 }

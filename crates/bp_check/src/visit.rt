@@ -69,12 +69,12 @@ fn visit<'a>(
     let depth = levels.len() as u64;
     match node {
         Refutation::Split { pair, children } => {
-            stack.feed_split(metric, depth, *pair)?;
+            stack.feed_split(metric, depth, *pair);
             let children = children.as_slice();
             levels.push(Level { children })?;
-            Ok(())
         }
         Refutation::Closed { claim } => stack.feed_claim(metric, depth, claim),
         Refutation::Open { claim } => stack.feed_claim(metric, depth, claim),
     }
+    Ok(())
 }

@@ -203,13 +203,14 @@ trial_leaves before after status t d o o' f leaves seed unwritten = record {
   order = λ one both. inl refl;
   read_in_order = λ one both fault. absurd both;
   unwritten = λ none. (unwritten none, refl);
+  whole = λ fault. inl refl;
 }
 
 pub leaves_as : {T D K F : Type 0} (w v : Words) (before after : View) (status : Status) (t t' : T) (d d' : D) (o o' : K) (f f' : F) → w ≡ v → Leaves v before after status t t' d d' o o' f f' → Leaves w before after status t t' d d' o o' f f'
 leaves_as w v before after status t t' d d' o o' f f' is leaves = subst (λ (u : Words). Leaves u before after status t t' d d' o o' f f') (sym is) leaves
 
-pub design_leaves : {T D K F : Type 0} (before after : View) (status : Status) (t t' : T) (d : D) (o o' : K) (f f' : F) (workers budget : ℕ) (replay fold strip steady : Option ℕ) (A : Asked) → A ≡ asked_of workers budget replay fold strip steady → ((MayWrite status → ⊥) → (o' ≡ o) × (f' ≡ f)) → (A.draws ≡ false → f' ≡ f) → Leaves (Design workers budget replay fold strip steady) before after status t t' d d o o' f f'
-design_leaves before after status t t' d o o' f f' workers budget replay fold strip steady A is unwritten undrawn = record {
+pub design_leaves : {T D K F : Type 0} (before after : View) (status : Status) (t t' : T) (d : D) (o o' : K) (f f' : F) (workers budget : ℕ) (replay fold strip steady : Option ℕ) (A : Asked) → A ≡ asked_of workers budget replay fold strip steady → ((MayWrite status → ⊥) → (o' ≡ o) × (f' ≡ f)) → (A.draws ≡ false → f' ≡ f) → (status ≡ WriteFault → (f' ≡ f) ⊎ Rose before.fold_faults after.fold_faults) → Leaves (Design workers budget replay fold strip steady) before after status t t' d d o o' f f'
+design_leaves before after status t t' d o o' f f' workers budget replay fold strip steady A is unwritten undrawn whole = record {
   tree = λ unused. absurd (unused tt);
   doc = λ unused. refl;
   fold = λ unused. undrawn (ap (λ (a : Asked). a.draws) is ∙ no_drawing workers budget replay fold strip steady unused);
@@ -217,10 +218,11 @@ design_leaves before after status t t' d o o' f f' workers budget replay fold st
   order = λ one both. inl refl;
   read_in_order = λ one both fault. absurd both;
   unwritten = unwritten;
+  whole = whole;
 }
 
-pub solve_leaves : {T D K F : Type 0} (before after : View) (status : Status) (t t' : T) (d : D) (o o' : K) (f f' : F) (budget : ℕ) (fold strip : Option ℕ) (A : Asked) → A ≡ solve_asked_of budget fold strip → ((MayWrite status → ⊥) → (o' ≡ o) × (f' ≡ f)) → (A.draws ≡ false → f' ≡ f) → Leaves (Solve budget strip fold None) before after status t t' d d o o' f f'
-solve_leaves before after status t t' d o o' f f' budget fold strip A is unwritten undrawn = record {
+pub solve_leaves : {T D K F : Type 0} (before after : View) (status : Status) (t t' : T) (d : D) (o o' : K) (f f' : F) (budget : ℕ) (fold strip : Option ℕ) (A : Asked) → A ≡ solve_asked_of budget fold strip → ((MayWrite status → ⊥) → (o' ≡ o) × (f' ≡ f)) → (A.draws ≡ false → f' ≡ f) → (status ≡ WriteFault → (f' ≡ f) ⊎ Rose before.fold_faults after.fold_faults) → Leaves (Solve budget strip fold None) before after status t t' d d o o' f f'
+solve_leaves before after status t t' d o o' f f' budget fold strip A is unwritten undrawn whole = record {
   tree = λ unused. absurd (unused tt);
   doc = λ unused. refl;
   fold = λ unused. undrawn (ap (λ (a : Asked). a.draws) is ∙ solve_no_drawing budget fold strip unused);
@@ -228,4 +230,5 @@ solve_leaves before after status t t' d o o' f f' budget fold strip A is unwritt
   order = λ one both. inl refl;
   read_in_order = λ one both fault. absurd both;
   unwritten = unwritten;
+  whole = whole;
 }

@@ -233,6 +233,8 @@ pub record Leaves {T D K F : Type 0} (w : Words) (before after : View) (status :
   pub read_in_order : UsesTree w → UsesDoc w → status ≡ ReadFault → (Rose before.tree_faults after.tree_faults × (d' ≡ d)) ⊎ ((read : TreeValue) × ReadsTree before.tree after.tree read × Rose before.doc_faults after.doc_faults)
   -- Only some statuses come with something written.
   pub unwritten : (MayWrite status → ⊥) → (o' ≡ o) × (f' ≡ f)
+  -- `out` is whole before `fold` begins: where writing it fails, `fold` is as it was, also where sinks tell no bytes.
+  pub whole : status ≡ WriteFault → (f' ≡ f) ⊎ Rose before.fold_faults after.fold_faults
 
 -- the statuses of which nothing is read or written
 abbrev pub IsSilent : Status → Type 0

@@ -51,6 +51,7 @@ pub fn design<R: Threads + Sync, T: Source, K: Sink, F: Sink, G: Gate + Sync>(
     ensures enough { (b : List ℕ) (U : TreeValue) → T.left source.old ≡ Some b → TreeOf b U → IsEnough U asked.sheet asked.steady → (quota : ℕ) → result ≡ Status.Unsteady quota → ⊥ }
     ensures unwritten { (MayWrite result → ⊥) → (out.new ≡ out.old) × (fold.new ≡ fold.old) }
     ensures undrawn { IsFalse asked.draws → fold.new ≡ fold.old }
+    ensures whole { result ≡ Status.WriteFault → (fold.new ≡ fold.old) ⊎ Rose (F.faults fold.old) (F.faults fold.new) }
     ensures loud { IsSilent result → ⊥ }
     ensures read { result ≡ Status.ReadFault → Rose (T.faults source.old) (T.faults source.new) }
     ensures write { result ≡ Status.WriteFault → Rose (K.faults out.old) (K.faults out.new) ⊎ (IsTrue asked.draws × Rose (F.faults fold.old) (F.faults fold.new)) }
@@ -77,6 +78,7 @@ fn write_design<R: Threads + Sync, K: Sink, F: Sink, G: Gate + Sync>(
     ensures covered { CoversStated tree.now asked.sheet asked.budget → (side bound : ℕ) → result ≡ Status.GaveUp side bound → ⊥ }
     ensures unwritten { (MayWrite result → ⊥) → (out.new ≡ out.old) × (fold.new ≡ fold.old) }
     ensures undrawn { IsFalse asked.draws → fold.new ≡ fold.old }
+    ensures whole { result ≡ Status.WriteFault → (fold.new ≡ fold.old) ⊎ Rose (F.faults fold.old) (F.faults fold.new) }
     ensures loud { IsSilent result → ⊥ }
     ensures no_read { result ≡ Status.ReadFault → ⊥ }
     ensures write { result ≡ Status.WriteFault → Rose (K.faults out.old) (K.faults out.new) ⊎ (IsTrue asked.draws × Rose (F.faults fold.old) (F.faults fold.new)) }
@@ -103,6 +105,7 @@ fn write_document_of<K: Sink, F: Sink>(
     ensures covered { CoversStated _tree.now asked.sheet asked.budget → (side bound : ℕ) → result ≡ Status.GaveUp side bound → ⊥ }
     ensures unwritten { (MayWrite result → ⊥) → (out.new ≡ out.old) × (fold.new ≡ fold.old) }
     ensures undrawn { IsFalse asked.draws → fold.new ≡ fold.old }
+    ensures whole { result ≡ Status.WriteFault → (fold.new ≡ fold.old) ⊎ Rose (F.faults fold.old) (F.faults fold.new) }
     ensures loud { IsSilent result → ⊥ }
     ensures no_read { result ≡ Status.ReadFault → ⊥ }
     ensures write { result ≡ Status.WriteFault → Rose (K.faults out.old) (K.faults out.new) ⊎ (IsTrue asked.draws × Rose (F.faults fold.old) (F.faults fold.new)) }

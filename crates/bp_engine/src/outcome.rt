@@ -30,6 +30,7 @@ pub fn write_outcome<K: Sink, F: Sink>(
     ensures ends { MayWrite result ⊎ (result ≡ Status.NoMemory) }
     ensures unwritten { (MayWrite result → ⊥) → (out.new ≡ out.old) × (fold.new ≡ fold.old) }
     ensures undrawn { IsFalse draws → fold.new ≡ fold.old }
+    ensures whole { result ≡ Status.WriteFault → (fold.new ≡ fold.old) ⊎ Rose (F.faults fold.old) (F.faults fold.new) }
     ensures write { result ≡ Status.WriteFault → Rose (K.faults out.old) (K.faults out.new) ⊎ (IsTrue draws × Rose (F.faults fold.old) (F.faults fold.new)) }
 {
     let status = status_of(document.side, document.bound);
@@ -75,6 +76,7 @@ fn write_texts<K: Sink, F: Sink>(
     requires { status ≡ Status.WriteFault → ⊥ }
     ensures texts { ((result ≡ status) × Appends (K.held out.old) (K.held out.new) text.now × MatchOption drawing.now (F.held fold.new ≡ F.held fold.old) (λ v. Appends (F.held fold.old) (F.held fold.new) v.items)) ⊎ ((result ≡ Status.WriteFault) × ((AppendsFront (K.held out.old) (K.held out.new) text.now × (F.held fold.new ≡ F.held fold.old)) ⊎ (Appends (K.held out.old) (K.held out.new) text.now × MatchOption drawing.now ⊥ (λ v. AppendsFront (F.held fold.old) (F.held fold.new) v.items)))) }
     ensures undrawn { drawing.now ≡ None → fold.new ≡ fold.old }
+    ensures whole { result ≡ Status.WriteFault → (fold.new ≡ fold.old) ⊎ Rose (F.faults fold.old) (F.faults fold.new) }
     ensures write { result ≡ Status.WriteFault → Rose (K.faults out.old) (K.faults out.new) ⊎ MatchOption drawing.now ⊥ (λ v. Rose (F.faults fold.old) (F.faults fold.new)) }
 {
     if put(out, text).is_err() {

@@ -30,6 +30,7 @@ pub fn solve<T: Source, K: Sink, F: Sink>(
     ensures solves { Solves asked (T.left source.old) (T.left source.new) (record { out = K.held out.old; fold = F.held fold.old }) (record { out = K.held out.new; fold = F.held fold.new }) result }
     ensures unwritten { (MayWrite result → ⊥) → (out.new ≡ out.old) × (fold.new ≡ fold.old) }
     ensures undrawn { IsFalse asked.draws → fold.new ≡ fold.old }
+    ensures whole { result ≡ Status.WriteFault → (fold.new ≡ fold.old) ⊎ Rose (F.faults fold.old) (F.faults fold.new) }
     ensures loud { IsSilent result → ⊥ }
     ensures read { result ≡ Status.ReadFault → Rose (T.faults source.old) (T.faults source.new) }
     ensures write { result ≡ Status.WriteFault → Rose (K.faults out.old) (K.faults out.new) ⊎ (IsTrue asked.draws × Rose (F.faults fold.old) (F.faults fold.new)) }
@@ -52,6 +53,7 @@ fn write_solved<K: Sink, F: Sink>(
     ensures solves { WritesSolved tree.now asked (record { out = K.held out.old; fold = F.held fold.old }) (record { out = K.held out.new; fold = F.held fold.new }) result }
     ensures unwritten { (MayWrite result → ⊥) → (out.new ≡ out.old) × (fold.new ≡ fold.old) }
     ensures undrawn { IsFalse asked.draws → fold.new ≡ fold.old }
+    ensures whole { result ≡ Status.WriteFault → (fold.new ≡ fold.old) ⊎ Rose (F.faults fold.old) (F.faults fold.new) }
     ensures loud { IsSilent result → ⊥ }
     ensures no_read { result ≡ Status.ReadFault → ⊥ }
     ensures write { result ≡ Status.WriteFault → Rose (K.faults out.old) (K.faults out.new) ⊎ (IsTrue asked.draws × Rose (F.faults fold.old) (F.faults fold.new)) }

@@ -1,9 +1,11 @@
-ghost use Rattle.std.specs.Prelude.{◌≡◌, IfOk};
+ghost use Rattle.std.specs.Prelude.{◌≡◌, ◌<◌, [], ◌∷◌, length, IfOk};
 ghost use Rattle.bp_base.specs.Path.{IsSmallPair};
+ghost use Rattle.bp_base.specs.Tree.{IsTree};
 
 use bp_base::*;
 use sqlite_items::Items;
 use std::alloc::Global;
+use std::fmt::Debug;
 use std::process::Abort;
 use std::test::Fail;
 use std::thread;
@@ -12,6 +14,19 @@ use std::thread::Threads;
 fn moves<T: Send>(_: &T) {}
 
 fn shares<T: Sync>(_: &T) {}
+
+// The proof of a function grows with each `assert_eq!` in it, and that of a drop in place with all that the value holds, branch by branch.
+// So both are called here.
+fn is<T: Copy + PartialEq + Debug>(rt: &impl Abort, value: T, wanted: T) {
+    assert_eq!(rt; value, wanted);
+}
+
+// The value goes between threads, and then it is dropped.
+fn goes<T: Send + Sync + Drop>(value: T) {
+    moves(&value);
+    shares(&value);
+    drop(value);
+}
 
 fn numbers(alloc: Global, items: &[u64]) -> Result<Vec<u64>, Fail>
     ensures { IfOk result (λ v. v.items ≡ items.now) }
@@ -36,262 +51,296 @@ fn walk(alloc: Global, leaves: &[u64]) -> Result<Claim, Fail> {
     })
 }
 
-#[test]
-fn names(rt: HostRuntime) -> Result<(), Fail> {
-    let long = [b'a'; 33];
-    let rows: [(&[u8], bool); 12] = [
-        (b"a", true),
-        (b"_", true),
-        (b"-", true),
-        (b"Z9_-z0", true),
-        (&long[..32], true),
-        (b"", false),
-        (&long, false),
-        (b"a b", false),
-        (b"a\n", false),
-        (b"@", false),
-        (b"[", false),
-        (b"\xc3\xa4", false),
-    ];
-    for (bytes, wanted) in rows {
-        let name = Name::new(bytes);
-        assert_eq!(rt; name.is_some(), wanted, "of {bytes:?}");
-        if let Some(name) = name {
-            assert!(rt; name.bytes() == bytes, "of {bytes:?}");
-            moves(&name);
-            shares(&name);
-        }
+fn is_name(rt: &impl Abort, bytes: &[u8], wanted: bool) {
+    let name = Name::new(bytes);
+    is(rt, (bytes, name.is_some()), (bytes, wanted));
+    if let Some(name) = name {
+        is(rt, name.bytes(), bytes);
+        moves(&name);
+        shares(&name);
     }
-    assert!(rt; Name::new(b"ab") == Name::new(b"ab"));
-    assert!(rt; Name::new(b"ab") != Name::new(b"a"));
-    Ok(())
 }
 
 #[test]
-fn chains(rt: HostRuntime) -> Result<(), Fail> {
-    let long = [7u64; 33];
-    let rows: [(&[u64], bool); 6] = [
-        (&[3, 1, 2], true),
-        (&[0, 999_999_999], true),
-        (&long[..32], true),
-        (&[], false),
-        (&long, false),
-        (&[1, 1_000_000_000], false),
-    ];
-    for (leaves, wanted) in rows {
-        let chain = Chain::new(rt.alloc(), leaves);
-        assert_eq!(rt; chain.is_some(), wanted, "of {leaves:?}");
-        if let Some(chain) = chain {
-            assert_eq!(rt; chain.len(), leaves.len() as u64);
-            for k in 0..chain.len() {
-                assert_eq!(rt; Some(chain.at(k)), leaves.get(k as usize).copied());
-            }
-            moves(&chain);
-            shares(&chain);
-        }
+fn names(rt: HostRuntime) {
+    let long = [b'a'; 33];
+    is_name(&rt, b"a", true);
+    is_name(&rt, b"_", true);
+    is_name(&rt, b"-", true);
+    is_name(&rt, b"Z9_-z0", true);
+    is_name(&rt, &long[..32], true);
+    is_name(&rt, b"", false);
+    is_name(&rt, &long, false);
+    is_name(&rt, b"a b", false);
+    is_name(&rt, b"a\n", false);
+    is_name(&rt, b"@", false);
+    is_name(&rt, b"[", false);
+    is_name(&rt, b"\xc3\xa4", false);
+    is(&rt, Name::new(b"ab") == Name::new(b"ab"), true);
+    is(&rt, Name::new(b"ab") == Name::new(b"a"), false);
+}
+
+fn has_leaves(rt: &impl Abort, chain: &Chain, leaves: &[u64]) {
+    is(rt, chain.len(), leaves.len() as u64);
+    for k in 0..chain.len() {
+        is(rt, Some(chain.at(k)), leaves.get(k as usize).copied());
     }
-    Ok(())
+}
+
+fn is_chain(rt: &impl Abort, alloc: Global, leaves: &[u64], wanted: bool) {
+    let chain = Chain::new(alloc, leaves);
+    is(rt, (leaves, chain.is_some()), (leaves, wanted));
+    if let Some(chain) = chain {
+        has_leaves(rt, &chain, leaves);
+        goes(chain);
+    }
+}
+
+#[test]
+fn chains(rt: HostRuntime) {
+    let alloc = rt.alloc();
+    let long = [7u64; 33];
+    is_chain(&rt, alloc, &[3, 1, 2], true);
+    is_chain(&rt, alloc, &[0, 999_999_999], true);
+    is_chain(&rt, alloc, &long[..32], true);
+    is_chain(&rt, alloc, &[], false);
+    is_chain(&rt, alloc, &long, false);
+    is_chain(&rt, alloc, &[1, 1_000_000_000], false);
 }
 
 #[test]
 fn paths(rt: HostRuntime) -> Result<(), Fail> {
-    let mut path = Path::empty(rt.alloc());
+    let alloc = rt.alloc();
+    let mut path = Path::empty(alloc);
+    let result = on_path(&rt, alloc, &mut path);
+    moves(&path);
+    shares(&path);
+    goes(Task { path, bound: 5 });
+    result
+}
+
+fn on_path(rt: &impl Abort, alloc: Global, path: &mut Path) -> Result<(), Fail>
+    requires { path.old ≡ [] }
+{
     let first = step(1, 2, Choice::Left);
     let last = step(31, 32, Choice::Above);
     path.push(first)?;
     path.push(last)?;
-    assert_eq!(rt; path.len(), 2);
-    assert_eq!(rt; path.at(0), first);
-    assert_eq!(rt; path.at(1), last);
-    let kept = path.copy(rt.alloc())?;
-    assert_eq!(rt; path.pop(), last);
-    assert_eq!(rt; path.len(), 1);
-    assert_eq!(rt; kept.len(), 2);
-    assert_eq!(rt; kept.at(1), last);
+    is(rt, (path.len(), path.at(0), path.at(1)), (2, first, last));
+    let kept = path.copy(alloc)?;
+    let result = beside(rt, alloc, path, &kept, last);
+    drop(kept);
+    result
+}
+
+// The path goes on without its last step, beside a copy that keeps it.
+fn beside(
+    rt: &impl Abort,
+    alloc: Global,
+    path: &mut Path,
+    kept: &Path,
+    last: Step,
+) -> Result<(), Fail>
+    requires path { 0 < length path.old }
+    requires kept { 1 < length kept.now }
+{
+    is(rt, (path.pop(), path.len()), (last, 1));
+    is(rt, (kept.len(), kept.at(1)), (2, last));
+    push_all(path)?;
+    have_in_common(rt, alloc, path, kept)?;
+    assert!(rt; path.len() == 117 && path.at(116) == step(1, 31, Choice::Above));
+    Ok(())
+}
+
+fn push_all(path: &mut Path) -> Result<(), Fail> {
     for j in 3..32 {
         for choice in [Choice::Left, Choice::Right, Choice::Below, Choice::Above] {
-            path = pushed(path, step(1, j, choice))?;
+            push(path, step(1, j, choice))?;
         }
     }
-    have_in_common(&rt, rt.alloc(), &path, &kept)?;
-    assert_eq!(rt; path.len(), 117);
-    assert_eq!(rt; path.at(116), step(1, 31, Choice::Above));
-    moves(&path);
-    shares(&path);
-    let task = Task { path, bound: 5 };
-    moves(&task);
-    shares(&task);
     Ok(())
 }
 
-// Paths that have one step in common, where the second has two.
-fn have_in_common(rt: &impl Abort, alloc: Global, path: &Path, kept: &Path) -> Result<(), Fail> {
-    assert_eq!(rt; path.common(kept), 1);
-    assert_eq!(rt; path.common(path), path.len());
-    assert_eq!(rt; path.common(&Path::empty(alloc)), 0);
-    if path.len() < MOST_STEPS {
-        let longer = path.extended(alloc, step(30, 31, Choice::Below))?;
-        assert_eq!(rt; longer.len(), path.len().saturating_add(1));
-        assert_eq!(rt; longer.common(path), path.len());
-        assert_eq!(rt; path.common(&longer), path.len());
-    }
-    Ok(())
-}
-
-fn pushed(mut path: Path, step: Step) -> Result<Path, Fail>
+fn push(path: &mut Path, step: Step) -> Result<(), Fail>
     requires { IsSmallPair step.pair }
 {
     if path.len() < MOST_STEPS {
         path.push(step)?;
     }
-    Ok(path)
+    Ok(())
+}
+
+// Paths that have one step in common, where the second has two.
+fn have_in_common(rt: &impl Abort, alloc: Global, path: &Path, kept: &Path) -> Result<(), Fail> {
+    is(rt, path.common(kept), 1);
+    is(rt, path.common(path), path.len());
+    let empty = Path::empty(alloc);
+    is(rt, path.common(&empty), 0);
+    drop(empty);
+    if path.len() < MOST_STEPS {
+        let longer = path.extended(alloc, step(30, 31, Choice::Below))?;
+        goes_on(rt, path, &longer);
+        drop(longer);
+    }
+    Ok(())
+}
+
+// The second has one step more.
+fn goes_on(rt: &impl Abort, path: &Path, longer: &Path) {
+    is(rt, longer.len(), path.len().saturating_add(1));
+    is(rt, longer.common(path), path.len());
+    is(rt, path.common(longer), path.len());
+}
+
+fn of_three(rt: &impl Abort, sequence: &mut Sequence<u64>) -> Result<(), Fail>
+    requires { sequence.old ≡ [] }
+{
+    sequence.push(4u64)?;
+    sequence.push(5)?;
+    sequence.push(6)?;
+    sequence.set(1, 50);
+    is(rt, sequence.as_slice(), &[4, 50, 6]);
+    is(rt, (sequence.pop(), sequence.len()), (Some(6), 2));
+    moves(sequence);
+    shares(sequence);
+    Ok(())
 }
 
 #[test]
 fn sequences(rt: HostRuntime) -> Result<(), Fail> {
     let mut sequence = Sequence::new(rt.alloc());
-    sequence.push(4u64)?;
-    sequence.push(5)?;
-    sequence.push(6)?;
-    sequence.set(1, 50);
-    assert!(rt; sequence.as_slice() == [4, 50, 6].as_slice());
-    assert_eq!(rt; sequence.pop(), Some(6));
-    assert_eq!(rt; sequence.len(), 2);
-    moves(&sequence);
-    shares(&sequence);
+    of_three(&rt, &mut sequence)?;
     let mut items = sequence.into_vec();
     items.push(7)?;
     let sequence = Sequence::from_vec(items);
-    assert!(rt; sequence.as_slice() == [4, 50, 7].as_slice());
+    is(&rt, sequence.as_slice(), &[4, 50, 7]);
+    drop(sequence);
     Ok(())
+}
+
+fn named(text: &[u8]) -> Result<Name, Fail>
+    ensures { IfOk result (λ name. name ≡ text.now) }
+{
+    match Name::new(text) {
+        Some(name) => Ok(name),
+        None => Err(Fail::from("no name")),
+    }
+}
+
+fn two_leaves(alloc: Global, names: &[Name]) -> Result<Tree, Fail>
+    requires { IsTree (record { parents = 0 ∷ 0 ∷ 0 ∷ []; lengths = 0 ∷ 1 ∷ 1000 ∷ []; names = names.now }) }
+{
+    let parents = numbers(alloc, &[0, 0, 0])?;
+    let lengths = numbers(alloc, &[0, 1, 1000])?;
+    let names = Vec::from_slice(alloc, names)?;
+    Ok(Tree::of(parents, lengths, names))
+}
+
+fn has_two_leaves(rt: &impl Abort, tree: &Tree, names: &[Name]) {
+    is(rt, tree.parents(), &[0, 0, 0]);
+    is(rt, tree.lengths(), &[0, 1, 1000]);
+    is(rt, tree.names() == names, true);
 }
 
 #[test]
 fn trees(rt: HostRuntime) -> Result<(), Fail> {
-    let (Some(root), Some(a), Some(b)) = (Name::new(b"r"), Name::new(b"a"), Name::new(b"b")) else {
-        return Err(Fail::from("names"));
-    };
-    let parents = numbers(rt.alloc(), &[0, 0, 0])?;
-    let lengths = numbers(rt.alloc(), &[0, 1, 1000])?;
-    let names = Vec::from_slice(rt.alloc(), &[root, a, b])?;
-    let tree = Tree::of(parents, lengths, names);
-    let kept = tree.copy(rt.alloc())?;
-    assert!(rt; kept.parents() == [0, 0, 0].as_slice());
-    assert!(rt; kept.lengths() == [0, 1, 1000].as_slice());
-    assert!(rt; kept.names() == [root, a, b].as_slice());
-    moves(&tree);
-    shares(&tree);
+    let names = [named(b"r")?, named(b"a")?, named(b"b")?];
+    let tree = two_leaves(rt.alloc(), &names)?;
+    let kept = tree.copy(rt.alloc());
+    goes(tree);
+    let kept = kept?;
+    has_two_leaves(&rt, &kept, &names);
+    drop(kept);
     Ok(())
+}
+
+fn record(alloc: Global) -> Result<Record, Fail> {
+    let claim = walk(alloc, &[1, 2])?;
+    Ok(Record {
+        path: Path::empty(alloc),
+        kind: RecordKind::Closed { claim },
+        ticket: 1,
+        given: 5,
+        bound: 5,
+    })
+}
+
+fn least(alloc: Global) -> Result<Least, Fail> {
+    let claim = walk(alloc, &[1, 2])?;
+    Ok(Least {
+        xs: Sequence::from_vec(numbers(alloc, &[0, 3])?),
+        ys: Sequence::new(alloc),
+        forced: 3,
+        claim,
+    })
+}
+
+fn of_one<T: Drop>(alloc: Global, item: T) -> Result<Sequence<T>, Fail> {
+    let mut sequence = Sequence::new(alloc);
+    sequence.push(item)?;
+    Ok(sequence)
+}
+
+fn settled(alloc: Global) -> Result<Settled, Fail> {
+    let records = of_one(alloc, record(alloc)?)?;
+    Ok(Settled {
+        records,
+        left: Sequence::new(alloc),
+        side: 5,
+        points: Sequence::new(alloc),
+        examined: 1,
+    })
 }
 
 #[test]
 fn records(rt: HostRuntime) -> Result<(), Fail> {
-    let record = Record {
-        path: Path::empty(rt.alloc()),
-        kind: RecordKind::Closed {
-            claim: walk(rt.alloc(), &[1, 2])?,
-        },
-        ticket: 1,
-        given: 5,
-        bound: 5,
-    };
-    moves(&record);
-    shares(&record);
-    let least = Least {
-        xs: Sequence::from_vec(numbers(rt.alloc(), &[0, 3])?),
-        ys: Sequence::new(rt.alloc()),
-        forced: 3,
-        claim: walk(rt.alloc(), &[1, 2])?,
-    };
-    moves(&least);
-    shares(&least);
-    let mut records = Sequence::new(rt.alloc());
-    records.push(record)?;
-    let settled = Settled {
-        records,
-        left: Sequence::new(rt.alloc()),
-        side: 5,
-        points: Sequence::new(rt.alloc()),
-        examined: 1,
-    };
-    moves(&settled);
-    shares(&settled);
-    let floor = Floor {
+    let alloc = rt.alloc();
+    goes(record(alloc)?);
+    goes(least(alloc)?);
+    goes(settled(alloc)?);
+    goes(Floor {
         m: 2,
-        leaves: Sequence::from_vec(numbers(rt.alloc(), &[1, 2])?),
+        leaves: Sequence::from_vec(numbers(alloc, &[1, 2])?),
         side: 2,
-    };
-    moves(&floor);
-    shares(&floor);
-    let placement = Placement {
+    });
+    goes(Placement {
         side: 5,
-        points: Sequence::new(rt.alloc()),
-    };
-    moves(&placement);
-    shares(&placement);
+        points: Sequence::new(alloc),
+    });
     Ok(())
+}
+
+fn push_children(alloc: Global, children: &mut Items<Refutation>) -> Result<(), Fail> {
+    let claim = walk(alloc, &[1])?;
+    children.push(Refutation::Open { claim })?;
+    let claim = walk(alloc, &[1, 3])?;
+    children.push(Refutation::Closed { claim })?;
+    Ok(())
+}
+
+fn is_split(rt: &impl Abort, refutation: &Refutation) {
+    match refutation {
+        Refutation::Split { pair, children } => {
+            is(rt, *pair, Pair { i: 1, j: 2 });
+            is(rt, children.len(), 2);
+        }
+        _ => assert!(rt; false),
+    }
 }
 
 #[test]
 fn refutations(rt: HostRuntime) -> Result<(), Fail> {
     let mut children = Items::new(rt.alloc());
-    children.push(Refutation::Open {
-        claim: walk(rt.alloc(), &[1])?,
-    })?;
-    children.push(Refutation::Closed {
-        claim: walk(rt.alloc(), &[1, 3])?,
-    })?;
+    let result = push_children(rt.alloc(), &mut children);
     let refutation = Refutation::Split {
         pair: Pair { i: 1, j: 2 },
         children,
     };
-    moves(&refutation);
-    shares(&refutation);
-    match &refutation {
-        Refutation::Split { pair, children } => {
-            assert_eq!(rt; *pair, Pair { i: 1, j: 2 });
-            assert_eq!(rt; children.len(), 2);
-        }
-        _ => assert!(rt; false),
+    if result.is_ok() {
+        is_split(&rt, &refutation);
     }
-    Ok(())
-}
-
-#[test]
-fn memory_source(rt: HostRuntime) -> Result<(), Fail> {
-    let mut source = MemSource {
-        bytes: Vec::from_slice(rt.alloc(), b"abcdefg")?,
-        at: 0,
-        most: 3,
-        calls: 0,
-        fails: numbers(rt.alloc(), &[2])?,
-        faults: 0,
-    };
-    let rows: [(Result<u64, Failed>, &[u8]); 5] = [
-        (Ok(3), b"abc."),
-        (Err(Failed), b"...."),
-        (Ok(3), b"def."),
-        (Ok(1), b"g..."),
-        (Ok(0), b"...."),
-    ];
-    for (wanted, bytes) in rows {
-        let mut buffer = [b'.'; 4];
-        assert_eq!(rt; source.read(&mut buffer), wanted);
-        assert!(rt; buffer.as_slice() == bytes);
-    }
-    assert_eq!(rt; (source.at, source.calls, source.faults), (7, 5, 1));
-    moves(&source);
-    let mut quiet = QuietSource {
-        bytes: Vec::from_slice(rt.alloc(), b"abcde")?,
-        at: 0,
-    };
-    let mut buffer = [0; 4];
-    assert_eq!(rt; quiet.read(&mut buffer), Ok(4));
-    assert_eq!(rt; quiet.read(&mut buffer), Ok(1));
-    assert!(rt; buffer.as_slice() == b"ebcd".as_slice());
-    assert_eq!(rt; quiet.read(&mut buffer), Ok(0));
-    moves(&quiet);
-    Ok(())
+    goes(refutation);
+    result
 }
 
 // A source of pieces of 3 bytes, whose call of this number fails.
@@ -306,70 +355,136 @@ fn seven(alloc: Global, failing: u64) -> Result<MemSource, Fail> {
     })
 }
 
+fn reads_piece(rt: &impl Abort, source: &mut MemSource, wanted: Result<u64, Failed>, bytes: &[u8]) {
+    let mut buffer = [b'.'; 4];
+    is(rt, source.read(&mut buffer), wanted);
+    is(rt, buffer.as_slice(), bytes);
+}
+
+fn reads_in_pieces(rt: &impl Abort, source: &mut MemSource) {
+    reads_piece(rt, source, Ok(3), b"abc.");
+    reads_piece(rt, source, Err(Failed), b"....");
+    reads_piece(rt, source, Ok(3), b"def.");
+    reads_piece(rt, source, Ok(1), b"g...");
+    reads_piece(rt, source, Ok(0), b"....");
+    is(rt, (source.at, source.calls, source.faults), (7, 5, 1));
+    moves(source);
+}
+
+fn reads_quietly(rt: &impl Abort, source: &mut QuietSource) {
+    let mut buffer = [0; 4];
+    is(rt, source.read(&mut buffer), Ok(4));
+    is(rt, source.read(&mut buffer), Ok(1));
+    is(rt, buffer.as_slice(), b"ebcd");
+    is(rt, source.read(&mut buffer), Ok(0));
+    moves(source);
+}
+
+#[test]
+fn memory_source(rt: HostRuntime) -> Result<(), Fail> {
+    let mut source = seven(rt.alloc(), 2)?;
+    reads_in_pieces(&rt, &mut source);
+    drop(source);
+    let bytes = Vec::from_slice(rt.alloc(), b"abcde")?;
+    let mut quiet = QuietSource { bytes, at: 0 };
+    reads_quietly(&rt, &mut quiet);
+    drop(quiet);
+    Ok(())
+}
+
+// What reading seven bytes gives, of which a call may fail.
+fn whole(alloc: Global, failing: u64, most: u64) -> Result<Result<Vec<u8>, ReadError>, Fail> {
+    let mut source = seven(alloc, failing)?;
+    let whole = read_whole(alloc, &mut source, most);
+    drop(source);
+    Ok(whole)
+}
+
+fn reads(rt: &impl Abort, alloc: Global, most: u64, wanted: &[u8]) -> Result<(), Fail> {
+    let whole = whole(alloc, 9, most)?;
+    assert!(rt;
+        matches!(&whole, Ok(bytes) if bytes.as_slice() == wanted),
+        "{most}"
+    );
+    drop(whole);
+    Ok(())
+}
+
 #[test]
 fn read_to_end_or_limit(rt: HostRuntime) -> Result<(), Fail> {
     let alloc = rt.alloc();
-    let rows: [(u64, &[u8]); 4] = [(9, b"abcdefg"), (7, b"abcdefg"), (4, b"abcd"), (0, b"")];
-    for (most, wanted) in rows {
-        let whole = read_whole(alloc, &mut seven(alloc, 9)?, most);
-        assert!(rt;
-            matches!(&whole, Ok(bytes) if bytes.as_slice() == wanted),
-            "{most}"
-        );
-    }
-    let failed = read_whole(alloc, &mut seven(alloc, 2)?, 9);
+    reads(&rt, alloc, 9, b"abcdefg")?;
+    reads(&rt, alloc, 7, b"abcdefg")?;
+    reads(&rt, alloc, 4, b"abcd")?;
+    reads(&rt, alloc, 0, b"")?;
+    let failed = whole(alloc, 2, 9)?;
     assert!(rt; matches!(&failed, Err(ReadError::Failed)));
+    drop(failed);
     Ok(())
+}
+
+fn writes_in_pieces(rt: &impl Abort, sink: &mut MemSink) {
+    is(rt, sink.write(b"ab"), Ok(2));
+    is(rt, sink.write(b"cd"), Err(Failed));
+    is(rt, sink.write(b"c"), Ok(1));
+    is(rt, sink.write(b"defghi"), Ok(3));
+    is(rt, sink.write(b"g"), Err(Failed));
+    is(rt, sink.bytes.as_slice() == b"abcdef".as_slice(), true);
+    is(rt, (sink.calls, sink.faults), (5, 2));
+    moves(sink);
+}
+
+fn counts(rt: &impl Abort) {
+    let mut count = CountSink {
+        length: u64::MAX - 3,
+    };
+    is(rt, count.write(b"ab"), Ok(2));
+    is(rt, count.length, u64::MAX - 1);
+    is(rt, count.write(b"ab"), Ok(2));
+    is(rt, count.length, u64::MAX);
+    moves(&count);
 }
 
 #[test]
 fn memory_sink(rt: HostRuntime) -> Result<(), Fail> {
-    let mut sink = MemSink::new(rt.alloc(), 6, 4, numbers(rt.alloc(), &[2])?)?;
-    let rows: [(&[u8], Result<u64, Failed>); 5] = [
-        (b"ab", Ok(2)),
-        (b"cd", Err(Failed)),
-        (b"c", Ok(1)),
-        (b"defghi", Ok(3)),
-        (b"g", Err(Failed)),
-    ];
-    for (piece, wanted) in rows {
-        assert_eq!(rt; sink.write(piece), wanted);
-    }
-    assert!(rt; sink.bytes.as_slice() == b"abcdef".as_slice());
-    assert_eq!(rt; (sink.calls, sink.faults), (5, 2));
-    moves(&sink);
-    let mut count = CountSink {
-        length: u64::MAX - 3,
-    };
-    assert_eq!(rt; count.write(b"ab"), Ok(2));
-    assert_eq!(rt; count.length, u64::MAX - 1);
-    assert_eq!(rt; count.write(b"ab"), Ok(2));
-    assert_eq!(rt; count.length, u64::MAX);
-    moves(&count);
+    let fails = numbers(rt.alloc(), &[2])?;
+    let mut sink = MemSink::new(rt.alloc(), 6, 4, fails)?;
+    writes_in_pieces(&rt, &mut sink);
+    drop(sink);
+    counts(&rt);
     let gate = OpenGate;
     gate.pass(1, 0);
-    moves(&gate);
-    shares(&gate);
+    goes(gate);
     Ok(())
+}
+
+fn list_turns(rt: &impl Abort, list: &mut ListSchedule) {
+    is(rt, turn_of(list, 4), 3);
+    is(rt, turn_of(list, 2), 0);
+    is(rt, turn_of(list, 16), 15);
+    is(rt, turn_of(list, 3), 0);
+    is(rt, turn_of(list, 1), 0);
+    moves(list);
+}
+
+fn seed_turns(rt: &impl Abort) {
+    let mut seed = SeedSchedule { state: 1 };
+    is(rt, turn_of(&mut seed, 100_000), 16_838);
+    is(rt, turn_of(&mut seed, 100_000), 5_758);
+    is(rt, turn_of(&mut seed, 3), 0);
+    is(rt, turn_of(&mut seed, 16), 11);
+    moves(&seed);
 }
 
 #[test]
 fn schedules(rt: HostRuntime) -> Result<(), Fail> {
-    let mut list = ListSchedule {
-        numbers: numbers(rt.alloc(), &[7, 2, u64::MAX])?,
-        at: 0,
-    };
-    for (live, wanted) in [(4, 3), (2, 0), (16, 15), (3, 0), (1, 0)] {
-        assert_eq!(rt; turn_of(&mut list, live), wanted);
-    }
-    moves(&list);
-    let mut seed = SeedSchedule { state: 1 };
-    for (live, wanted) in [(100_000, 16_838), (100_000, 5_758), (3, 0), (16, 11)] {
-        assert_eq!(rt; turn_of(&mut seed, live), wanted);
-    }
-    moves(&seed);
+    let numbers = numbers(rt.alloc(), &[7, 2, u64::MAX])?;
+    let mut list = ListSchedule { numbers, at: 0 };
+    list_turns(&rt, &mut list);
+    drop(list);
+    seed_turns(&rt);
     let mut state = u64::from(u32::MAX);
-    assert_eq!(rt; draw(&mut state), 15929);
+    is(&rt, draw(&mut state), 15929);
     law_of_turns();
     Ok(())
 }
@@ -393,29 +508,26 @@ fn both_pass<R: Threads + Sync>(rt: &R, gate: &HoldGate, hands: &mut [u64]) {
 }
 
 #[test]
-fn hold_gate(rt: HostRuntime) -> Result<(), Fail> {
+fn hold_gate(rt: HostRuntime) {
     let together = HoldGate::new();
     both_pass(&rt, &together, &mut [1, 2]);
-    assert!(rt; !together.gave_up());
+    is(&rt, together.gave_up(), false);
     together.pass(1, 0);
     together.pass(2, 1);
-    assert!(rt; !together.gave_up());
-    moves(&together);
-    shares(&together);
-    Ok(())
+    is(&rt, together.gave_up(), false);
+    goes(together);
 }
 
 // One thread makes the passes of all hands: those of hands that aren't held, and then one that is.
 #[test]
-fn hold_gate_alone(rt: HostRuntime) -> Result<(), Fail> {
+fn hold_gate_alone(rt: HostRuntime) {
     let alone = HoldGate::new();
-    for (hand, records) in [(2, 0), (3, 1), (0, 1)] {
-        alone.pass(hand, records);
-    }
-    assert!(rt; !alone.gave_up());
+    alone.pass(2, 0);
+    alone.pass(3, 1);
+    alone.pass(0, 1);
+    is(&rt, alone.gave_up(), false);
     alone.pass(2, 1);
-    assert!(rt; alone.gave_up());
+    is(&rt, alone.gave_up(), true);
     alone.pass(1, 0);
     alone.pass(2, 2);
-    Ok(())
 }

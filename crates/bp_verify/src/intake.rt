@@ -187,6 +187,8 @@ impl TakesBytes for Intake {
 
     ghost takes = { λ p bytes q. Takes p q bytes };
 
+    ghost wants_memory = { Unit {0} };
+
     // After a fault the bytes are passed over.
     fn take(&mut self, bytes: &[u8]) -> Result<(), NoMemory> {
         let alloc = self.alloc;

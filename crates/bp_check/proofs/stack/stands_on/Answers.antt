@@ -10,14 +10,14 @@ use Rattle.bp_check.proofs.stack.stands_on.Goals as goal
 pub returns-then-eq : goal.returns-then-eq
 returns-then-eq c =
     let step = c.at-step.result in
-    let at = get_or_from_slice_get c.args.path.now c.loop-k.k step step c.at-step.ensures.step in
+    let at = get_or_from_slice_get c.args.path.now c.loop-k.k step step c.at-step.ensures in
     sym (list_any_at (λ (s : Step). is_same_pair s.pair c.args.pair) c.args.path.now c.loop-k.k step (omega arith)
     (ap (λ (s : Step). is_same_pair s.pair c.args.pair) at ∙ sym c.eq.ensures ∙ c.if-eq.true))
 
 pub loop-k-preserved : goal.loop-k-preserved
 loop-k-preserved c =
     let step = c.at-step.result in
-    let at = get_or_from_slice_get c.args.path.now c.loop-k.k step step c.at-step.ensures.step in
+    let at = get_or_from_slice_get c.args.path.now c.loop-k.k step step c.at-step.ensures in
     none_more (λ (s : Step). is_same_pair s.pair c.args.pair) c.args.path.now c.loop-k.k step (omega arith) c.loop-k.invariant
     (ap (λ (s : Step). is_same_pair s.pair c.args.pair) at ∙ sym c.eq.ensures ∙ c.if-eq.false)
 

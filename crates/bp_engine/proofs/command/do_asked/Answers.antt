@@ -62,7 +62,7 @@ pub returns-in-Design-clause-leaves : goal.returns-in-Design-clause-leaves
 returns-in-Design-clause-leaves g c =
     let d = c.in-Design in
     leaves_as c.args.words (Design d.workers d.budget d.replay d.place d.strip d.steady) _ _ c.design.result _ _ _ _ _ _ _ _ d.is
-    (design_leaves _ _ c.design.result _ _ _ _ _ _ _ d.workers d.budget d.replay d.place d.strip d.steady c.asked_of-asked.result c.asked_of-asked.ensures c.design.ensures.unwritten c.design.ensures.undrawn)
+    (design_leaves _ _ c.design.result _ _ _ _ _ _ _ d.workers d.budget d.replay d.place d.strip d.steady c.asked_of-asked.result c.asked_of-asked.ensures c.design.ensures.unwritten c.design.ensures.undrawn c.design.ensures.whole)
 
 pub returns-in-Made-clause-does : goal.returns-in-Made-clause-does
 returns-in-Made-clause-does g c =
@@ -98,4 +98,4 @@ returns-else-not-has_no_mirror-clause-leaves g c =
     let d = c.in-Solve in
     let plain : d.mirror ≡ None = c.has_no_mirror.ensures.0 c.if-not-has_no_mirror.false in
     leaves_as c.args.words (Solve d.budget d.strip d.place None) _ _ c.solve.result _ _ _ _ _ _ _ _ (d.is ∙ (λ i. Solve d.budget d.strip d.place (plain i)))
-    (solve_leaves _ _ c.solve.result _ _ _ _ _ _ _ d.budget d.place d.strip c.asked_of-asked-in-Solve.result c.asked_of-asked-in-Solve.ensures c.solve.ensures.unwritten c.solve.ensures.undrawn)
+    (solve_leaves _ _ c.solve.result _ _ _ _ _ _ _ d.budget d.place d.strip c.asked_of-asked-in-Solve.result c.asked_of-asked-in-Solve.ensures c.solve.ensures.unwritten c.solve.ensures.undrawn c.solve.ensures.whole)

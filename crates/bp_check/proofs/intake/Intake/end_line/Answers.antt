@@ -29,7 +29,7 @@ pub returns-in-Ok-Some : goal.returns-in-Ok-Some
 returns-in-Ok-Some c =
     let p = c.args.self.now in
     let fed = fed_held p.scanner c.feed-scanned.new.self c.as_slice.result.now p.held true (Ok c.in-Ok-Some.field-0) (Ok (Some c.in-Ok-Some.node)) c.as_slice.ensures (answer_of c.in-Ok-Some.field-0 (Some c.in-Ok-Some.node) c.in-Ok-Some.field-0-is) c.in-Ok-Some.ensures in
-    node_judged p c.feed-scanned.new.self c.clear.new.self c.requires.whole c.clear.ensures (c.law_of_long_lines.ensures.form p.held) c.judge.result c.judge.new.self c.in-Ok-Some.node fed c.judge.ensures.judged c.judge.ensures.held c.judge.ensures.fault
+    node_judged p c.feed-scanned.new.self c.clear.new.self c.requires.whole c.clear.ensures (c.law_of_long_lines.ensures.form p.held) c.judge.new.self c.in-Ok-Some.node fed c.judge.ensures.judged c.judge.ensures.held c.judge.ensures.fault
 
 pub returns-in-Err : goal.returns-in-Err
 returns-in-Err c =

@@ -1,6 +1,5 @@
 use Rattle.std.proofs.Common.{arith, ◌++◌, ◌∷◌, []}
 use Rattle.bp_check.proofs.Intakes.{scanned_kept, scanned_room, judged}
-use Rattle.bp_check.proofs.Visiting.{at_ok}
 use Rattle.bp_check.proofs.intake.Intake.judge.Goals as goal
 
 pub set_sheet-requires : goal.set_sheet-requires
@@ -18,8 +17,6 @@ feed-requires-clause-room c =
     omega (arith, few)
 
 pub returns-clause-judged : goal.returns-clause-judged
-returns-clause-judged c =
-    at_ok c.feed.result
-    (λ takes T text ns scanned.
+returns-clause-judged c = λ T text ns scanned.
     let set = c.set_sheet.ensures.set T text (ns ++ c.args.node ∷ []) ns scanned in
-    judged T c.set_sheet.new.self c.feed.new.self text ns c.args.node set.0 set.1 takes) c.feed.ensures.taken
+    judged T c.set_sheet.new.self c.feed.new.self text ns c.args.node set.0 set.1 c.feed.ensures.taken

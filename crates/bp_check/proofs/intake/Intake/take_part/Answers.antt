@@ -12,12 +12,12 @@ end_line-requires-clause-underway c =
     let p = c.args.self.now in
     underway_on p (record p { held = c.extend.new.self }) c.args.part.now c.requires.underway (part_taken_in p c.extend.new.self c.args.part.now (no_fault p.fault c.if-is_some.ensures) c.requires.free c.extend.ensures)
 
-pub returns-in_ok-end_line : goal.returns-in_ok-end_line
-returns-in_ok-end_line c =
+pub returns-then-ended : goal.returns-then-ended
+returns-then-ended c =
     let p = c.args.self.now in
     let part = c.args.part.now in
     takes_as p c.end_line.new.self (part ++ 10 ∷ []) (part ++ end_of c.args.ended) (ap (λ (b : Bool). part ++ end_of b) (sym c.if-ended.true))
-    (takes_then p (record p { held = c.extend.new.self }) c.end_line.new.self part (10 ∷ []) (part_taken_in p c.extend.new.self part (no_fault p.fault c.if-is_some.ensures) c.requires.free c.extend.ensures) c.in_ok-end_line.ensures)
+    (takes_then p (record p { held = c.extend.new.self }) c.end_line.new.self part (10 ∷ []) (part_taken_in p c.extend.new.self part (no_fault p.fault c.if-is_some.ensures) c.requires.free c.extend.ensures) c.end_line.ensures)
 
 pub returns-else-ended : goal.returns-else-ended
 returns-else-ended c =

@@ -13,8 +13,8 @@ take_part-requires-clause-free c = piece_free c.args.bytes.now c.loop-here.at c.
 pub loop-here-preserved : goal.loop-here-preserved
 loop-here-preserved c = (
   next_within c.args.bytes.now c.loop-here.at c.in-Some.here c.in-Some.ensures,
-  underway_on c.loop-here.self c.take_part.new.self _ c.loop-here.invariant.1 c.in_ok-take_part.ensures,
-  next_taken c.args.bytes.now c.loop-here.at c.in-Some.here c.in-Some.ensures c.args.self.now c.loop-here.self c.take_part.new.self c.loop-here.invariant.2 c.in_ok-take_part.ensures,
+  underway_on c.loop-here.self c.take_part.new.self _ c.loop-here.invariant.1 c.take_part.ensures,
+  next_taken c.args.bytes.now c.loop-here.at c.in-Some.here c.in-Some.ensures c.args.self.now c.loop-here.self c.take_part.new.self c.loop-here.invariant.2 c.take_part.ensures,
 )
 
 pub returns-clause-takes : goal.returns-clause-takes

@@ -1,14 +1,10 @@
-use Rattle.std.proofs.Common.{◌≡◌, ◌∙◌, refl, sym, subst}
-use Rattle.std.specs.Result.{OnOk}
-use Rattle.bp_check.specs.declared.stack.Stack.{Stack}
+use Rattle.std.proofs.Common.{◌∙◌, refl, sym}
 use Rattle.bp_check.proofs.Kept.{split_opened, split_refused}
 use Rattle.bp_check.proofs.stack.Stack.add_split.Goals as goal
 
 pub returns-then-may_open-clause-split : goal.returns-then-may_open-clause-split
 returns-then-may_open-clause-split c =
-    subst (λ (S : Stack). OnOk c.open_split.result (c.open_split.new.self ≡ S))
-    (sym (split_opened c.args.metric.now.tree c.args.metric.now.sheet c.args.self.now c.args.pair (sym c.may_open.ensures ∙ c.if-may_open.true)))
-    c.open_split.ensures.split
+    c.open_split.ensures.split ∙ sym (split_opened c.args.metric.now.tree c.args.metric.now.sheet c.args.self.now c.args.pair (sym c.may_open.ensures ∙ c.if-may_open.true))
 
 pub returns-clause-split : goal.returns-clause-split
 returns-clause-split c =

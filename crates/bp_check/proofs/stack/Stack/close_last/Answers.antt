@@ -10,7 +10,7 @@ found_count-requires c =
 
 pub returns-in-Some-clause-closed : goal.returns-in-Some-clause-closed
 returns-in-Some-clause-closed c =
-    close_is c.args.metric.now.tree c.args.metric.now.sheet c.args.self.now _ c.in-Some.split c.pop-step.result c.requires.kept.path c.in-Some.ensures c.pop-step.ensures refl
+    close_is c.args.metric.now.tree c.args.metric.now.sheet c.args.self.now _ c.in-Some.split c.take_last-step.result c.requires.kept.path c.in-Some.ensures c.take_last-step.ensures refl
     (c.joined-self.ensures ∙ ap (joined c.args.self.now.found) c.found_count.ensures)
 
 pub returns-in-Some-clause-kept : goal.returns-in-Some-clause-kept

@@ -2,9 +2,9 @@ use Rattle.std.proofs.Common.{◌∙◌, sym}
 use Rattle.bp_check.proofs.Kept.{entered_last, entered_none}
 use Rattle.bp_check.proofs.stack.Stack.enter.Goals as goal
 
-pub returns-in_ok-enter_last-clause-entered : goal.returns-in_ok-enter_last-clause-entered
-returns-in_ok-enter_last-clause-entered c =
-    c.in_ok-enter_last.ensures.entered
+pub returns-then-len-depth-clause-entered : goal.returns-then-len-depth-clause-entered
+returns-then-len-depth-clause-entered c =
+    c.enter_last.ensures.entered
     ∙ sym (entered_last c.args.metric.now.tree c.args.metric.now.sheet c.args.self.now c.args.depth (sym c.len.ensures ∙ c.if-len-depth.true))
 
 pub returns-else-len-depth-clause-entered : goal.returns-else-len-depth-clause-entered
