@@ -1,5 +1,5 @@
 pub mod Marks
-mod Digits
+pub mod Digits
 pub mod Goings
 pub mod Exchanged
 pub mod Corners

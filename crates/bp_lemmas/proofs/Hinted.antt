@@ -1,5 +1,5 @@
 -- A hint takes a knowledge that tells only what is so to one that does too, and never to a broken one.
-use Rattle.std.proofs.Common.{◌≡◌, ℕ, zero, suc, ◌-◌, ◌≤◌, Bool, true, false, if◌then◌else◌, IsTrue, List, [], ◌∷◌, length, get_or, All, refl, arith, inl, inr}
+use Rattle.std.proofs.Common.{◌≡◌, ℕ, ◌*◌, ◌<◌, zero, suc, ◌-◌, ◌≤◌, Bool, true, false, if◌then◌else◌, IsTrue, List, [], ◌∷◌, length, get_or, All, refl, arith, inl, inr}
 use Rattle.bp_base.specs.declared.point.Axis.TheVariants.{X, Y}
 use Rattle.bp_arrangement.specs.declared.fact.Fact.{Fact}
 use Rattle.bp_arrangement.specs.declared.fact.Hint.{Hint}
@@ -12,7 +12,7 @@ use Rattle.bp_lemmas.specs.Hints.{Outcome, broken, now, bad, by_last, push_known
 use Rattle.bp_lemmas.specs.Standing.{IsHint}
 use Rattle.bp_lemmas.proofs.Told.{AllHold, Told, told_raised, told_lowered, told_pushed, told_fact, denial_holds, unsure_all}
 
-module _ (S : System) (q s : ℕ) (c : ℕ → ℕ) (finer : 1 ≤ q) (m : Meets S q s c) where
+module _ (S : System) (q s : ℕ) (c : ℕ → ℕ) (finer : 1 ≤ q) (low : s < q * S.bound) (m : Meets S q s c) where
   not_broken : (K : Knowledge) → Told S q s c K → IsBroken S K → ⊥
   not_broken K told (crossed u over) = omega (arith, told.lows u, told.highs u, mark_le q (K.upper u) (K.lower u) finer over)
   not_broken K told (both o holds fails) = told.failed o fails (told.held o holds)
@@ -30,7 +30,7 @@ module _ (S : System) (q s : ℕ) (c : ℕ → ℕ) (finer : 1 ≤ q) (m : Meets
 
   by_last_sound : (K : Knowledge) (otherwise : Outcome) (left : List Fact) → Told S q s c K → Refuted left → IsSound otherwise → IsSound (by_last S K otherwise left)
   by_last_sound K otherwise [] told refuted sound = refuted tt
-  by_last_sound K otherwise (f ∷ []) told refuted sound = told_fact S q s c K (denial f) finer told (denial_holds S q s c f (λ holds. refuted (holds, tt)))
+  by_last_sound K otherwise (f ∷ []) told refuted sound = told_fact S q s c K (denial f) finer low told (denial_holds S q s c f (λ holds. refuted (holds, tt)))
   by_last_sound K otherwise (f ∷ g ∷ more) told refuted sound = sound
 
   told_push_known : (K : Knowledge) (o : Order) → Told S q s c K → Told S q s c (push_known S K o)
@@ -38,7 +38,7 @@ module _ (S : System) (q s : ℕ) (c : ℕ → ℕ) (finer : 1 ≤ q) (m : Meets
   told_push_known K o told = chosen (K.holds o) refl
     where
       chosen : (b : Bool) → K.holds o ≡ b → Told S q s c (if b then pushed S K o else K)
-      chosen true is = told_pushed S q s c K o finer told (told.held o is)
+      chosen true is = told_pushed S q s c K o finer low told (told.held o is)
       chosen false is = told
 
   told_leant : (K : Knowledge) (l : Lasting) → Told S q s c K → c l.earlier ≤ c l.later → Told S q s c (leant K l)
@@ -83,10 +83,10 @@ module _ (S : System) (q s : ℕ) (c : ℕ → ℕ) (finer : 1 ≤ q) (m : Meets
       let M = pair_pushed S K i j in
       let told_m : Told S q s c M = told_pair_pushed K i j told in
       sound_either (knows_order S M i j) (now M) (by_last S M (now M) (unsure S M (no_order i j))) told_m
-      (by_last_sound M (now M) (unsure S M (no_order i j)) told_m (λ hold. some_order i j named (unsure_all S q s c M (no_order i j) finer told_m hold)) told_m)
+      (by_last_sound M (now M) (unsure S M (no_order i j)) told_m (λ hold. some_order i j named (unsure_all S q s c M (no_order i j) finer low told_m hold)) told_m)
   after_sound earlier K (Lemma number) refuted named told =
       let facts = get_or earlier (number - 1) [] in
-      by_last_sound K bad (unsure S K facts) told (λ hold. refuted (number - 1) [] (omega (arith, named.0, named.1)) (unsure_all S q s c K facts finer told hold)) tt
+      by_last_sound K bad (unsure S K facts) told (λ hold. refuted (number - 1) [] (omega (arith, named.0, named.1)) (unsure_all S q s c K facts finer low told hold)) tt
 
   then_sound : (Rest : Knowledge → Type 0) (o : Outcome) → ((K : Knowledge) → Told S q s c K → Rest K → ⊥) → IsSound o → Then Rest o → ⊥
   then_sound Rest broken rest sound is = sound

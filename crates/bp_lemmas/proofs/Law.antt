@@ -1,5 +1,5 @@
 -- The law of systems: lemma by lemma, none has facts that all hold of coordinates that meet the system.
-use Rattle.std.proofs.Common.{◌≡◌, ℕ, suc, ◌≤◌, ◌++◌, List, [], ◌∷◌, IsTrue, All, refl, sym, subst, arith, inl, inr}
+use Rattle.std.proofs.Common.{◌≡◌, ℕ, ◌*◌, ◌<◌, suc, ◌≤◌, ◌++◌, List, [], ◌∷◌, IsTrue, All, refl, sym, subst, arith, inl, inr}
 use Rattle.std.specs.List.{list_any}
 use Rattle.std.proofs.lemmas.Bool.{or_cases, false≢true}
 use Rattle.std.proofs.lemmas.List.Elements.{All-append, All-cons}
@@ -17,9 +17,9 @@ pub grown_last : (S : System) (K : Knowledge) (earlier : List (List Fact)) (fact
 grown_last S K [] facts = refl
 grown_last S K (first ∷ earlier) facts = grown_last S (grown S K first) earlier facts
 
-module _ (S : System) (q s : ℕ) (c : ℕ → ℕ) (finer : 1 ≤ q) (m : Meets S q s c) where
+module _ (S : System) (q s : ℕ) (c : ℕ → ℕ) (finer : 1 ≤ q) (low : s < q * S.bound) (m : Meets S q s c) where
   abbrev Denied : List Fact → Type 0
-  Denied facts = Refuted S q s c finer m facts
+  Denied facts = Refuted S q s c finer low m facts
 
   -- what is so of each of a list is so of one among them
   among : (C : Order → Type 0) (o : Order) (orders : List Order) → All C orders → IsTrue (list_any (is_order o) orders) → C o
@@ -39,7 +39,7 @@ module _ (S : System) (q s : ℕ) (c : ℕ → ℕ) (finer : 1 ≤ q) (m : Meets
 
   told_grown : (K : Knowledge) (facts : List Fact) → Told S q s c K → Denied facts → Told S q s c (grown S K facts)
   told_grown K [] told denied = told
-  told_grown K (f ∷ []) told denied = told_fact S q s c K (denial f) finer told (denial_holds S q s c f (λ holds. denied (holds, tt)))
+  told_grown K (f ∷ []) told denied = told_fact S q s c K (denial f) finer low told (denial_holds S q s c f (λ holds. denied (holds, tt)))
   told_grown K (f ∷ g ∷ more) told denied = told
 
   told_root : (K : Knowledge) (earlier : List (List Fact)) → Told S q s c K → All Denied earlier → Told S q s c (grown_by S K earlier)
@@ -50,8 +50,8 @@ module _ (S : System) (q s : ℕ) (c : ℕ → ℕ) (finer : 1 ≤ q) (m : Meets
   stands_denied : (earlier : List (List Fact)) (l : Lemma) → All Denied earlier → Stands S earlier l → Denied l.facts
   stands_denied earlier l denied stands hold =
       let root = root_after S earlier in
-      closed_sound S q s c finer m earlier denied l.hints stands.hints (with_facts S root l.facts)
-      (told_facts S q s c l.facts root finer (told_root (first_knowledge S) earlier told_first denied) hold) stands.closed
+      closed_sound S q s c finer low m earlier denied l.hints stands.hints (with_facts S root l.facts)
+      (told_facts S q s c l.facts root finer low (told_root (first_knowledge S) earlier told_first denied) hold) stands.closed
 
   none_left : (facts : List Fact) → facts ≡ [] → AllHold S q s c facts
   none_left facts is = subst (AllHold S q s c) (sym is) tt
@@ -66,6 +66,6 @@ module _ (S : System) (q s : ℕ) (c : ℕ → ℕ) (finer : 1 ≤ q) (m : Meets
       (All-append Denied earlier (l.facts ∷ []) denied (All-cons Denied l.facts [] this none)) stand.1 ends
 
 pub systems_law : (S : System) (lemmas : List Lemma) → EachStands S [] lemmas → EndsEmpty (facts_of lemmas) → NoneMeets S
-systems_law S lemmas stand ends q s c finer below m =
-    let none : All (Refuted S q s c finer m) [] = λ k d within. absurd (omega (arith, within)) in
-    nothing_meets S q s c finer m lemmas [] none stand ends
+systems_law S lemmas stand ends q s c finer low m =
+    let none : All (Refuted S q s c finer low m) [] = λ k d within. absurd (omega (arith, within)) in
+    nothing_meets S q s c finer low m lemmas [] none stand ends

@@ -41,6 +41,10 @@ unfolding leaf_of number
 leaf_number X i = omega arith
 leaf_number Y i = omega arith
 
+-- the coordinate of a number is that of its leaf on its axis
+pub at_number : (P : List Point) (axis : Axis) (i : ℕ) → coordinates P (number axis i) ≡ coordinate P axis i
+at_number P axis i = rw (axis_number axis i) (rw (leaf_number axis i) refl)
+
 -- different leaves are apart
 pub leaves_far : (T : TreeValue) → IsTree T → (i j : ℕ) → IsLeaf T i → IsLeaf T j → i ≢ j → 1 ≤ leaf_dist T i j
 leaves_far T t i j first second differ = elim (cases_lt i j) [
@@ -112,23 +116,20 @@ module _ (T : TreeValue) (t : IsTree T) (G : Sheet) (q s : ℕ) (finer : 1 ≤ q
   abbrev c : ℕ → ℕ
   c = coordinates P
 
-  at_number : (axis : Axis) (i : ℕ) → coordinate P (axis_of (number axis i)) (leaf_of (number axis i)) ≡ coordinate P axis i
-  at_number axis i = rw (axis_number axis i) (rw (leaf_number axis i) refl)
-
   met : (axis : Axis) (i j : ℕ) → coordinate P axis i + q * leaf_dist T i j ≤ coordinate P axis j → IsMet q s c (order_of T axis i j)
   unfolding order_of
-  met axis i j before = omega (arith, before, at_number axis i, at_number axis j)
+  met axis i j before = omega (arith, before, at_number P axis i, at_number P axis j)
 
   met_back : (axis : Axis) (i j : ℕ) → IsMet q s c (order_of T axis i j) → coordinate P axis i + q * leaf_dist T i j ≤ coordinate P axis j
   unfolding order_of
-  met_back axis i j is = omega (arith, is, at_number axis i, at_number axis j)
+  met_back axis i j is = omega (arith, is, at_number P axis i, at_number P axis j)
 
   origin_lies : (H : Sheet) → Lies H q s origin
   origin_lies Square = (omega arith, omega arith)
   origin_lies (Strip width) = (omega arith, omega arith)
 
   -- the point of each number lies on the sheet: where there is no leaf of that number it is leaf 1's, or the origin
-  all_inside : (i : ℕ) → Lies G q s (point_at P i)
+  pub all_inside : (i : ℕ) → Lies G q s (point_at P i)
   all_inside zero = v.inside 1 (omega arith, omega (arith, t.leaves_enough))
   all_inside (suc i) = elim (cases_lt (leaf_count T) (suc i)) [
     | inl past ↦ subst (Lies G q s) (sym (get_or_past P (suc i - 1) origin (omega (arith, past, v.each)))) (origin_lies G)
@@ -174,7 +175,7 @@ module _ (T : TreeValue) (t : IsTree T) (G : Sheet) (q s : ℕ) (finer : 1 ≤ q
   IsKept l = c l.earlier ≤ c l.later
 
   kept : (axis : Axis) (i j : ℕ) → coordinate P axis i ≤ coordinate P axis j → IsKept (lies_no_farther axis i j)
-  kept axis i j le = omega (arith, le, at_number axis i, at_number axis j)
+  kept axis i j le = omega (arith, le, at_number P axis i, at_number P axis j)
 
   no_orders : (C : Order → Type 0) → All C []
   no_orders C k d within = absurd (omega (arith, within))

@@ -1,11 +1,11 @@
 -- Knowledge of a system: bounds of its coordinates by codes, and which orders hold or don't. When a fact is sure of it, what it is with a
 -- fact more, and when it is broken.
-use Rattle.std.specs.Prelude.{ℕ, ◌+◌, ◌-◌, ◌*◌, ◌≤◌, ◌==◌, ◌||◌, nat_le, max, min, List, [], ◌∷◌, Bool, if◌then◌else◌, IsTrue}
+use Rattle.std.specs.Prelude.{ℕ, ◌+◌, ◌-◌, ◌*◌, ◌/◌, ◌≤◌, ◌==◌, ◌||◌, nat_le, max, min, List, [], ◌∷◌, Bool, true, if◌then◌else◌, IsTrue}
 use Rattle.std.specs.List.{list_any}
 use Rattle.bp_base.specs.declared.point.Axis.{Axis}
 use Rattle.bp_arrangement.specs.declared.fact.Fact.{Fact}
 use Rattle.bp_arrangement.specs.declared.fact.Fact.TheVariants.{Before, NotBefore, Least, Below}
-use Rattle.bp_lemmas.specs.Systems.{Order, apart, is_order, System}
+use Rattle.bp_lemmas.specs.Systems.{Order, apart, facing, facing_itself, never, is_order, System}
 
 -- for each coordinate a lower and an upper code, and for each order whether it is known to hold or known not to
 pub record Knowledge : Type 0 where
@@ -37,13 +37,27 @@ with_order K o = record K { holds = λ (p : Order). is_order p o || K.holds p }
 unfoldable pub without_order : Knowledge → Order → Knowledge
 without_order K o = record K { fails = λ (p : Order). is_order p o || K.fails p }
 
+-- The upper code of a coordinate that faces another by a weight, from the other's lower code: at least 2K where that is 2K or 2K + 1.
+abbrev pub facing_upper : ℕ → ℕ → ℕ → ℕ
+facing_upper bound w code = 2 * (bound - (code / 2 + w))
+
+-- and of a coordinate that faces itself: the least even code from bound - w on
+abbrev pub facing_itself_upper : ℕ → ℕ → ℕ
+facing_itself_upper bound w = 2 * ((bound - w + 1) / 2)
+
 -- an order that holds gives each of its coordinates a bound
 unfoldable pub pushed : System → Knowledge → Order → Knowledge
 pushed S K (apart u v w) = lowered (raised K v (K.lower u + 2 * w)) u (K.upper v - 2 * w)
+pushed S K (facing u v w) = lowered (lowered K u (facing_upper S.bound w (K.lower v))) v (facing_upper S.bound w (K.lower u))
+pushed S K (facing_itself u w) = lowered K u (facing_itself_upper S.bound w)
+pushed S K never = K
 
 -- the bounds leave no room for the order
 unfoldable pub is_refuted : System → Knowledge → Order → Bool
 is_refuted S K (apart u v w) = nat_le (K.upper v) (K.lower u + 2 * w)
+is_refuted S K (facing u v w) = nat_le S.bound (K.lower u / 2 + K.lower v / 2 + w)
+is_refuted S K (facing_itself u w) = nat_le S.bound (K.lower u / 2 + K.lower u / 2 + w)
+is_refuted S K never = true
 
 -- with a fact more
 unfoldable pub with_fact : System → Knowledge → Fact → Knowledge

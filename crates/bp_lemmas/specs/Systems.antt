@@ -1,21 +1,45 @@
 -- Systems: coordinates on a grid q times finer, orders of two of them, and what is known of them at first. How facts and hints, which speak
 -- of leaves on an axis, name the coordinates and orders is a part of the system: names of the same order are told apart by nothing.
-use Rattle.std.specs.Prelude.{◌⊎◌, ℕ, ◌+◌, ◌*◌, ◌<◌, ◌≤◌, ◌==◌, ◌&&◌, List, [], ◌∷◌, Bool, IsTrue, All}
+use Rattle.std.specs.Prelude.{◌⊎◌, ℕ, ◌+◌, ◌*◌, ◌<◌, ◌≤◌, ◌==◌, ◌&&◌, List, [], ◌∷◌, Bool, true, false, IsTrue, All}
 use Rattle.bp_base.specs.declared.point.Axis.{Axis}
 use Rattle.bp_base.specs.declared.point.Axis.TheVariants.{X, Y}
 use Rattle.bp_arrangement.specs.Facts.{mark}
 
--- What an order says. Coordinates are numbers.
+-- What an order says. Coordinates are numbers, weights are told in steps of the coarse grid.
 pub data Order : Type 0 where
-  -- the first coordinate and the weight, of the coarse grid, are at most the second
+  -- the first coordinate and the weight are at most the second
   apart : ℕ → ℕ → ℕ → Order
+  -- the two coordinates and the weight are at most the side; a system names the lesser number first
+  facing : ℕ → ℕ → ℕ → Order
+  -- twice the coordinate and the weight are at most the side
+  facing_itself : ℕ → ℕ → Order
+  -- an order that no coordinates meet
+  never : Order
 
 abbrev pub is_order : Order → Order → Bool
 is_order (apart u v w) (apart a b d) = (u == a) && (v == b) && (w == d)
+is_order (apart u v w) (facing a b d) = false
+is_order (apart u v w) (facing_itself a d) = false
+is_order (apart u v w) never = false
+is_order (facing u v w) (apart a b d) = false
+is_order (facing u v w) (facing a b d) = (u == a) && (v == b) && (w == d)
+is_order (facing u v w) (facing_itself a d) = false
+is_order (facing u v w) never = false
+is_order (facing_itself u w) (apart a b d) = false
+is_order (facing_itself u w) (facing a b d) = false
+is_order (facing_itself u w) (facing_itself a d) = (u == a) && (w == d)
+is_order (facing_itself u w) never = false
+is_order never (apart a b d) = false
+is_order never (facing a b d) = false
+is_order never (facing_itself a d) = false
+is_order never never = true
 
 -- of a side s and coordinates c on a grid q times finer the order is so
 abbrev pub IsMet : (q s : ℕ) → (ℕ → ℕ) → Order → Type 0
 IsMet q s c (apart u v w) = c u + q * w ≤ c v
+IsMet q s c (facing u v w) = c u + c v + q * w ≤ s
+IsMet q s c (facing_itself u w) = c u + c u + q * w ≤ s
+IsMet q s c never = ⊥
 
 -- one of the orders is so
 abbrev pub OneIsMet : (q s : ℕ) → (ℕ → ℕ) → List Order → Type 0

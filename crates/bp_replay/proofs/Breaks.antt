@@ -7,8 +7,8 @@ use Rattle.bp_arrangement.specs.declared.fact.Fact.{Fact}
 use Rattle.bp_arrangement.specs.declared.fact.Fact.TheVariants.{Before, NotBefore, Least, Below}
 use Rattle.bp_arrangement.specs.declared.fact.Hint.{Hint}
 use Rattle.bp_arrangement.specs.Facts.{denial}
-use Rattle.bp_lemmas.specs.Systems.{Order, apart, is_order, Lasting, System}
-use Rattle.bp_lemmas.specs.Knowledge.{Knowledge, raised, lowered, with_order, without_order, pushed, with_fact, with_facts, unsure, IsBroken, crossed, both, circular}
+use Rattle.bp_lemmas.specs.Systems.{Order, apart, facing, facing_itself, never, is_order, Lasting, System}
+use Rattle.bp_lemmas.specs.Knowledge.{Knowledge, raised, lowered, with_order, without_order, facing_upper, facing_itself_upper, pushed, with_fact, with_facts, unsure, IsBroken, crossed, both, circular}
 use Rattle.bp_lemmas.proofs.Told.{same_order}
 use Rattle.bp_lemmas.specs.Hints.{Outcome, broken, now, bad, by_last, push_known, leant, no_order, knows_order, pair_settled, Closes}
 
@@ -44,6 +44,9 @@ or_sooner false c is = absurd (false≢true is)
 
 pub order_itself : (o : Order) → IsTrue (is_order o o)
 order_itself (apart u v w) = and_from ((u == u) && (v == v)) (w == w) (and_from (u == u) (v == v) (eq-eqb u u refl) (eq-eqb v v refl)) (eq-eqb w w refl)
+order_itself (facing u v w) = and_from ((u == u) && (v == v)) (w == w) (and_from (u == u) (v == v) (eq-eqb u u refl) (eq-eqb v v refl)) (eq-eqb w w refl)
+order_itself (facing_itself u w) = and_from (u == u) (w == w) (eq-eqb u u refl) (eq-eqb w w refl)
+order_itself never = refl
 
 module _ (S : System) where
   -- a lower bound breaks exactly where it reaches the upper code
@@ -101,6 +104,10 @@ module _ (S : System) where
   pub pushed_stays : (K : Knowledge) (o : Order) → IsBroken S K → IsBroken S (pushed S K o)
   unfolding pushed
   pushed_stays K (apart u v w) is = lowered_stays (raised K v (K.lower u + 2 * w)) u (K.upper v - 2 * w) (raised_stays K v (K.lower u + 2 * w) is)
+  pushed_stays K (facing u v w) is =
+      lowered_stays (lowered K u (facing_upper S.bound w (K.lower v))) v (facing_upper S.bound w (K.lower u)) (lowered_stays K u (facing_upper S.bound w (K.lower v)) is)
+  pushed_stays K (facing_itself u w) is = lowered_stays K u (facing_itself_upper S.bound w) is
+  pushed_stays K never is = is
 
   pub fact_stays : (K : Knowledge) (f : Fact) → IsBroken S K → IsBroken S (with_fact S K f)
   unfolding with_fact

@@ -1,0 +1,6 @@
+pub mod Read
+pub mod Orders
+pub mod Symmetric
+pub mod Exchanging
+pub mod Bounding
+mod Worked

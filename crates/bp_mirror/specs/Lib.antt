@@ -1,0 +1,6 @@
+pub mod Mirror
+pub mod Mirrored
+pub mod Readings
+pub mod Systems
+pub mod Swaps
+pub mod Proves

@@ -1,0 +1,10 @@
+//! Symmetric designs: mirrors of a tree's leaves, and the placements that they tie.
+#![tactic(auto)]
+
+mod kind;
+mod laws;
+
+pub use kind::MirrorKind;
+pub use laws::{
+    law_of_mirror_arrangement, law_of_mirror_lemmas, law_of_mirror_readings, law_of_mirror_systems,
+};
