@@ -3,16 +3,20 @@
 # each status with the one that its reader would expect. Rows without permission are run as another user where this one is root. Ends with 1
 # where a status is another one.
 #
-#   tools/hostile_runs.sh [PROGRAM]     PROGRAM is crates/boxpleat/out/boxpleat where it isn't given
+#   tools/hostile_runs.sh [PROGRAM [BATCH]]     crates/boxpleat/out/boxpleat and crates/boxpleat_batch/out/boxpleat_batch where they aren't
+#                                               given
 set -u
 here=$(cd "$(dirname "$0")/.." && pwd)
-given=${1:-$here/crates/boxpleat/out/boxpleat}
-[ -x "$given" ] || { echo "no program $given" >&2; exit 2; }
+given=${1:-$here/crates/boxpleat/out/boxpleat} batch=${2:-$here/crates/boxpleat_batch/out/boxpleat_batch}
+for file in "$given" "$batch"; do
+    [ -x "$file" ] || { echo "no program $file" >&2; exit 2; }
+done
 folder=$(mktemp -d)
 trap 'rm -rf "$folder"' EXIT
 chmod 755 "$folder"
-# a copy, which another user can run too
+# copies, which another user can run too
 cp "$given" "$folder/boxpleat"
+cp "$batch" "$folder/batch"
 cp "$here"/examples/two_twigs.tree "$folder/tree"
 cd "$folder" || exit 2
 b=./boxpleat
@@ -89,5 +93,13 @@ row 5 "$b design --fold late.fold <tree >/dev/full"
 row 1 "test -e late.fold"
 # what is wanted: a document is written whole before the drawing, which a folder keeps from being written
 row 0 "$b design --fold nest <tree >whole 2>/dev/null; cmp whole design"
+# many trees at once
+row 0 "./batch <tree"
+row 0 "./batch <nest 2>/dev/null; test \$? -eq 4"
+row 1 "head -c 5000000 /dev/zero | ./batch"
+row 5 "./batch <tree >/dev/full"
+row 5 "{ sleep 1; ./batch <tree; } | true"
+row 2 "./batch --workers 17 <tree 2>/dev/full"
+row 2 "./batch \$'\\xff' <tree"
 echo "$rows runs, $faults faults"
 [ "$faults" -eq 0 ]

@@ -3,12 +3,15 @@
 # status, or with 6 and nothing written on standard output or in the file of --fold. Ends with 1 where a run does otherwise. A C compiler makes
 # the piece that refuses (refuse_memory.c).
 #
-#   tools/refused_memory.sh [PROGRAM [MOST]]     crates/boxpleat/out/boxpleat, and at most 400 runs a command: the first half of them refuse
-#                                                the first demands, the others demands at equal steps up to the last
+#   tools/refused_memory.sh [PROGRAM [MOST [BATCH]]]     crates/boxpleat/out/boxpleat, at most 400 runs a command: the first half of them
+#                                                        refuse the first demands, the others demands at equal steps up to the last; and
+#                                                        crates/boxpleat_batch/out/boxpleat_batch
 set -u
 here=$(cd "$(dirname "$0")/.." && pwd)
-program=${1:-$here/crates/boxpleat/out/boxpleat} most=${2:-400}
-[ -x "$program" ] || { echo "no program $program" >&2; exit 2; }
+program=${1:-$here/crates/boxpleat/out/boxpleat} most=${2:-400} batch=${3:-$here/crates/boxpleat_batch/out/boxpleat_batch}
+for file in "$program" "$batch"; do
+    [ -x "$file" ] || { echo "no program $file" >&2; exit 2; }
+done
 folder=$(mktemp -d)
 trap 'rm -rf "$folder"' EXIT
 cc -O1 -shared -fPIC -o "$folder/refuse.so" "$here/tools/refuse_memory.c" || exit 2
@@ -18,10 +21,11 @@ cp "$here"/examples/*.tree .
 "$program" design <two_twigs.tree >twigs.design
 sed 's/r 2/r 3/' star_2_2_2_1_1.tree >longer.tree
 "$program" solve <star_2_2_2_1_1.tree >star.cert
+{ cat two_twigs.tree; echo %; cat star_2_2_2_1_1.tree; echo %; echo c p 0; echo %; cat two_twigs.tree; } >trees
 faults=0 runs=0 refusals=0
 
 fault() {
-    echo "demand $number of: $words < $input: $1"
+    echo "demand $number of: ${program##*/} $words < $input: $1"
     faults=$((faults + 1))
 }
 
@@ -54,7 +58,7 @@ row() {
     for ((number = 1; number <= demands && number <= half; number++)); do refuse; done
     step=$(((demands - half) / half + 1))
     for ((; number <= demands; number += step)); do refuse; done
-    echo "$words < $input: status $usual, $demands demands"
+    echo "${program##*/} $words < $input: status $usual, $demands demands"
 }
 
 row yes star_of_four.tree design --fold drawing
@@ -81,5 +85,10 @@ row yes star.cert picture
 row yes /dev/null made 16 7
 row yes /dev/null trial 6 3
 row yes /dev/null help
+program=$batch
+row yes trees --workers 1
+row yes trees --workers 4
+row yes trees --workers 16 --budget 1
+row yes /dev/null
 echo "$runs runs, $refusals of them ended with 6, $faults faults"
 [ "$faults" -eq 0 ]
