@@ -216,7 +216,13 @@ impl Stack {
 }
 
 // What is found with the claim of a node at the end of the path. It isn't looked at where a split is bad.
-fn joined_claim(metric: &Metric, found: Found, node: u64, path: &Depths<Step>, claim: &Claim) -> Found
+fn joined_claim(
+    metric: &Metric,
+    found: Found,
+    node: u64,
+    path: &Depths<Step>,
+    claim: &Claim,
+) -> Found
     ensures { result ≡ joined_claim metric.now.tree metric.now.sheet found node path.now claim.now }
 {
     if is_wrong(found) {
