@@ -12,8 +12,8 @@ use Rattle.bp_metric.specs.Opening.{side_of}
 use Rattle.bp_document.specs.declared.document.Document.{Document}
 use Rattle.bp_check.specs.Written.{CountsFrom, HasWrittenProof, IsWrittenNode, IsWrittenPart, IsWrittenProof, IsWritten, is_open, examined_count, open_count}
 use Rattle.bp_design.specs.Design.{IsGivenUp}
-use Rattle.bp_design.proofs.NodeParts.{parts_same}
-use Rattle.bp_design.proofs.Searches.{all_from, bound_whole}
+use Rattle.bp_written.proofs.Bounds.{all_from, bound_whole}
+use Rattle.bp_written.proofs.NodeParts.{parts_same}
 
 abbrev IsClosed : Node → Type 0
 IsClosed n = is_open n.part ≡ false

@@ -1,10 +1,4 @@
-mod Weights
 mod Replays
-mod SameNodes
-mod ShownCounts
-mod NodeParts
-mod FoundNodes
-mod Covered
 mod Searches
 mod GivenUp
 mod Designs

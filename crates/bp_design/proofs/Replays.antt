@@ -1,40 +1,27 @@
 -- What a document tells of a search that replays.
-use Rattle.std.proofs.Common.{◌≡◌, ℕ, false, ◌<◌, ◌≤◌, List, length, map, Some, refl, sym, ap, ◌∙◌, subst, arith}
-use Rattle.std.proofs.lemmas.List.{length-map}
-use Rattle.std.proofs.lemmas.List.FromFn.{length-range_with_len}
-use Rattle.std.specs.List.{range_with_len}
-use Rattle.bp_base.proofs.Bags.{same-length}
+use Rattle.std.proofs.Common.{◌≡◌, ℕ, false, ◌<◌, ◌≤◌, List, Option, refl, sym, ap, ◌∙◌, subst, arith}
 use Rattle.bp_core.specs.Settled.{IsSettled}
 use Rattle.bp_machine.specs.Runs.{Scheduled}
 use Rattle.bp_base.specs.declared.point.Floor.{Floor}
 use Rattle.bp_base.specs.declared.point.Placement.{Placement}
 use Rattle.bp_base.specs.declared.point.Point.{Point}
 use Rattle.bp_base.specs.declared.point.Sheet.{Sheet}
-use Rattle.bp_base.specs.declared.record.Record.{Record}
 use Rattle.bp_base.specs.declared.record.Settled.{Settled}
-use Rattle.bp_base.specs.declared.record.Task.{Task}
 use Rattle.bp_base.specs.declared.refutation.Refutation.{Refutation}
 use Rattle.bp_base.specs.Tree.{TreeValue}
 use Rattle.bp_metric.specs.Floor.{IsFloor, IsFloorSide}
 use Rattle.bp_metric.specs.Opening.{IsOpening, IsOpeningSide, side_of}
 use Rattle.bp_document.specs.declared.document.Document.{Document}
-use Rattle.bp_join.specs.Joined.{IsJoined}
+use Rattle.bp_written.specs.Told.{HasProofOf, IsDocumentOf, IsProofOf}
 use Rattle.bp_design.specs.Replayed.{IsCountedReplay, IsToldOf}
-use Rattle.bp_design.proofs.Searches.{floor_most}
+use Rattle.bp_design.proofs.Searches.{floor_most, records_many}
 
-all_counted : (T : TreeValue) (G : Sheet) (B : ℕ) (Z : Settled) → IsSettled T G B Z → Z.examined ≡ length Z.records
-all_counted T G B Z settled =
-    omega (
-      arith,
-      length-map Z.records (λ (x : Record). x.ticket),
-      same-length (map (λ (x : Record). x.ticket) Z.records) (range_with_len 0 Z.examined) settled.tickets,
-      length-range_with_len 0 Z.examined,
-    )
-
-pub told_joined : (T : TreeValue) (G : Sheet) (Z : Settled) (records : List Record) → records ≡ Z.records → (tasks : List Task) → tasks ≡ Z.left → (r : Refutation) → IsJoined T G records tasks r → (R : Refutation) → Some r ≡ Some R → IsJoined T G Z.records Z.left R
-told_joined T G Z records first tasks second r joined R is =
-    let same : r ≡ R = cc in
-    subst (IsJoined T G Z.records Z.left) same (subst (λ (ts : List Task). IsJoined T G Z.records ts r) second (subst (λ (rs : List Record). IsJoined T G rs tasks r) first joined))
+pub told_joined : (T : TreeValue) (G : Sheet) (Z : Settled) (f : Floor) (D : Document) → IsDocumentOf T G Z f D → IsToldOf T G Z false D
+told_joined T G Z f D told = record {
+  side = told.side;
+  points = λ plain. told.points;
+  proof = λ r is. let proof : IsProofOf T G Z f.side D.bound r = subst (λ (p : Option Refutation). HasProofOf T G Z f p D.bound) is told.proof in proof.joined;
+}
 
 -- of an opening and a floor of the tree, the sides
 module _ (T : TreeValue) (G : Sheet) (p : Placement) (f : Floor) (is : IsOpening T G p.points) (side : p.side ≡ side_of G p.points) (floor : IsFloor T G f) (openings : (P Q : List Point) → IsOpening T G P → IsOpening T G Q → P ≡ Q) where
@@ -61,6 +48,6 @@ module _ (T : TreeValue) (G : Sheet) (p : Placement) (f : Floor) (is : IsOpening
     -- and else what the run comes to
     pub search_counted : f.side < p.side → (Z : Settled) → IsSettled T G budget Z → Scheduled T G hands budget seed Z → IsToldOf T G Z false D → IsCountedReplay T G hands budget seed D Z.examined
     search_counted apart Z settled scheduled told = record {
-      searched = λ u l is_u is_l less. (Z, scheduled, told, all_counted T G budget Z settled);
+      searched = λ u l is_u is_l less. (Z, scheduled, told, sym (records_many T G budget Z settled));
       unsearched = λ u l is_u is_l most. absurd (omega (arith, opening_side u is_u, floor_side l is_l, apart, most));
     }

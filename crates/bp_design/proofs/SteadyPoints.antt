@@ -17,7 +17,7 @@ use Rattle.bp_check.specs.Checks.{Checks}
 use Rattle.bp_design.specs.Design.{IsDesign}
 use Rattle.bp_design.specs.Replayed.{IsToldOf}
 use Rattle.bp_design.specs.Steadied.{IsSteadyOf}
-use Rattle.bp_design.proofs.Searches.{points_small}
+use Rattle.bp_written.proofs.Documents.{points_small}
 
 abbrev pub with_points : Document → List Point → Document
 with_points D P = record { tree = D.tree; side = D.side; bound = D.bound; points = P; floor = D.floor; proof = D.proof; sheet = D.sheet }

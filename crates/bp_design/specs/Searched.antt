@@ -1,31 +1,16 @@
 -- What a search writes: a document of the tree on its sheet, whose bound is its side where the budget covers the stated tree.
-use Rattle.std.specs.Prelude.{◌≡◌, ◌≤◌, ◌<◌, ℕ, List, false}
-use Rattle.bp_base.specs.declared.path.Step.{Step}
+use Rattle.std.specs.Prelude.{◌≡◌, ◌≤◌, ◌<◌, ℕ, false}
 use Rattle.bp_base.specs.declared.point.Floor.{Floor}
 use Rattle.bp_base.specs.declared.point.Placement.{Placement}
 use Rattle.bp_base.specs.declared.point.Sheet.{Sheet}
-use Rattle.bp_base.specs.declared.refutation.Refutation.{Refutation}
 use Rattle.bp_base.specs.Limits.{most_number}
 use Rattle.bp_base.specs.Tree.{TreeValue}
-use Rattle.bp_floor.specs.Small as limits
 use Rattle.bp_opening.specs.Small.{IsSmall as IsSmallOpening}
-use Rattle.bp_metric.specs.Floor.{FloorHolds, IsFloor}
 use Rattle.bp_metric.specs.Opening.{IsOpening, side_of}
-use Rattle.bp_metric.specs.Refutation.{Fits}
 use Rattle.bp_metric.specs.Stated.{CoversStated}
 use Rattle.bp_document.specs.declared.document.Document.{Document}
 use Rattle.bp_document.specs.Ranges.{IsDocument}
 use Rattle.bp_check.specs.Written.{IsWritten}
-
--- the refutation fits some path
-abbrev pub FitsSome : TreeValue → Sheet → Refutation → Type 0
-FitsSome T G r = (path : List Step) × Fits T G r path
-
--- it is the tree's floor on the sheet, as a document tells it
-pub record IsFloorOf (T : TreeValue) (G : Sheet) (f : Floor) : Type 0 where
-  pub floor : IsFloor T G f
-  pub holds : FloorHolds T G f
-  pub small : limits.IsSmall f
 
 -- it is the tree's opening on the sheet, at its side
 pub record IsOpeningOf (T : TreeValue) (G : Sheet) (p : Placement) : Type 0 where

@@ -5,7 +5,6 @@ mod designing;
 mod replaying;
 mod searched;
 mod steadying;
-mod weighing;
 
 pub use designing::design;
 pub use replaying::{Counted, counted_replay, replayed};

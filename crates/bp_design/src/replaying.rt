@@ -4,7 +4,7 @@ ghost use Rattle.bp_base.specs.Limits.{most_budget, most_hands};
 ghost use Rattle.bp_design.specs.Design.{IsDesign};
 ghost use Rattle.bp_design.specs.Replayed.{IsCountedReplay, IsReplay};
 
-use crate::searched::document_of;
+use crate::searched::design_of;
 use bp_base::NoMemory;
 use bp_check::{law_of_checked_texts, law_of_checks};
 use bp_document::Document;
@@ -63,7 +63,7 @@ pub fn counted_replay(
     if opening.side > floor.side {
         let settled = run_seeded(alloc, metric, opening, floor.side, hands, budget, seed)?;
         let examined = settled.examined;
-        let document = document_of(alloc, metric, settled, floor)?;
+        let document = design_of(alloc, metric, settled, floor)?;
         return Ok(Counted { document, examined });
     }
     let tree = metric.tree().copy(alloc)?;

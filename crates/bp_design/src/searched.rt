@@ -1,22 +1,19 @@
 // From a search to the document that is written of it.
-ghost use Rattle.std.specs.Prelude.{◌≡◌, ◌≤◌, ◌<◌, ℕ, IfOk, false};
+ghost use Rattle.std.specs.Prelude.{◌≤◌, ◌<◌, ℕ, IfOk, false};
 ghost use Rattle.bp_base.specs.Limits.{most_budget, most_hands};
 ghost use Rattle.bp_metric.specs.Opening.{IsOpeningSide};
 ghost use Rattle.bp_core.specs.Settled.{IsSettled};
-ghost use Rattle.bp_check.specs.Written.{bound_of};
+ghost use Rattle.bp_written.specs.Told.{IsFloorOf};
 ghost use Rattle.bp_design.specs.Replayed.{IsToldOf};
-ghost use Rattle.bp_design.specs.Searched.{IsAbove, IsFloorOf, IsOpeningOf, IsSearched};
+ghost use Rattle.bp_design.specs.Searched.{IsAbove, IsOpeningOf, IsSearched};
 
-use crate::weighing::weighed;
 use bp_base::{Floor, Gate, NoMemory, Placement, Settled};
 use bp_core::law_of_left;
 use bp_document::Document;
-use bp_floor::law_of_floors;
-use bp_join::join;
 use bp_metric::Metric;
 use bp_opening::one_opening;
-use bp_symmetry::refutation_counts;
 use bp_workers::run_hands;
+use bp_written::document_of;
 use std::alloc::Global;
 use std::thread::Threads;
 
@@ -41,11 +38,11 @@ pub fn searched<R: Threads + Sync, G: Gate + Sync>(
 {
     one_opening(metric);
     let settled = run_hands(rt, alloc, metric, opening, floor.side, hands, budget, gate)?;
-    document_of(alloc, metric, settled, floor)
+    design_of(alloc, metric, settled, floor)
 }
 
-// What a search has come to, as a document.
-pub fn document_of(
+// What a search has come to, as a design.
+pub fn design_of(
     alloc: Global,
     metric: &Metric,
     settled: Settled,
@@ -53,53 +50,13 @@ pub fn document_of(
 ) -> Result<Document, NoMemory>
     requires floor { IsFloorOf metric.now.tree metric.now.sheet floor }
     requires above { (v : ℕ) → IsOpeningSide metric.now.tree metric.now.sheet v → IsAbove floor v }
-    requires settled { (B : ℕ) × IsSettled metric.now.tree metric.now.sheet B settled }
-    ensures searched { IfOk result (λ D. (B : ℕ) → B ≤ most_budget → IsSettled metric.now.tree metric.now.sheet B settled → IsSearched metric.now.tree metric.now.sheet B D) }
+    requires settled { (B : ℕ) × (B ≤ most_budget) × IsSettled metric.now.tree metric.now.sheet B settled }
+    ensures searched { IfOk result (λ D. (B : ℕ) → IsSettled metric.now.tree metric.now.sheet B settled → IsSearched metric.now.tree metric.now.sheet B D) }
     ensures told { IfOk result (λ D. IsToldOf metric.now.tree metric.now.sheet settled false D) }
 {
+    let _leaves = metric.leaves();
     one_opening(metric);
-    law_of_floors(metric);
     law_of_left(metric);
-    refutation_counts(metric);
-    let tree = metric.tree().copy(alloc)?;
-    let sheet = metric.sheet();
-    let Settled {
-        records,
-        left,
-        side,
-        points,
-        ..
-    } = settled;
-    if side == floor.side {
-        return Ok(Document {
-            tree,
-            side,
-            bound: side,
-            points,
-            floor,
-            proof: None,
-            sheet,
-        });
-    }
-    let refutation = join(alloc, metric, records.into_vec(), left.into_vec())?;
-    let bound = bound_of(side, floor.side, weighed(metric, &refutation));
-    Ok(Document {
-        tree,
-        side,
-        bound,
-        points,
-        floor,
-        proof: Some(refutation),
-        sheet,
-    })
-}
-
-// The bound that a proof of this weight gives.
-fn bound_of(side: u64, floor: u64, weight: Option<u64>) -> u64
-    ensures { result ≡ bound_of side floor weight }
-{
-    match weight {
-        None => side,
-        Some(weight) => side.min(floor.max(weight)),
-    }
+    let document = document_of(alloc, metric, settled, floor)?;
+    Ok(document)
 }

@@ -18,10 +18,12 @@ use Rattle.bp_metric.specs.Valid.{Valid}
 use Rattle.bp_check.specs.Written.{is_open}
 use Rattle.bp_check.proofs.Reading.{nodes-whole}
 use Rattle.bp_join.specs.Joined.{node_of}
-use Rattle.bp_revise.specs.Apart.{IsOfPairs, examined, nodes_below, open_paths}
+use Rattle.bp_written.specs.Told.{IsOfPairs}
+use Rattle.bp_revise.specs.Apart.{examined, nodes_below, open_paths}
 use Rattle.bp_revise.specs.Course.{IsBegun, IsLeft, IsOnCourse}
 use Rattle.bp_revise.specs.Revised.IsGrown.{root}
-use Rattle.bp_revise.proofs.GoodNodes.{IsGood, all_good, begun_balanced}
+use Rattle.bp_written.proofs.GoodNodes.{IsGood}
+use Rattle.bp_revise.proofs.GoodNodes.{all_good, begun_balanced}
 
 module _ (T : TreeValue) (G : Sheet) (kept : Refutation) where
   -- from nothing

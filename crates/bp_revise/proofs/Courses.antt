@@ -38,12 +38,12 @@ use Rattle.bp_check.specs.Written.{CountsFrom}
 use Rattle.bp_turn.specs.Turns.{AreLowPoints, IsCycleFound, IsFound, IsFoundOrCyclic, child, tasks_of}
 use Rattle.bp_turn.proofs.Forced.{one_forced}
 use Rattle.bp_join.specs.Joined.{part_of}
-use Rattle.bp_revise.specs.Apart.{IsOfPairs}
+use Rattle.bp_written.specs.Told.{IsOfPairs}
 use Rattle.bp_revise.specs.Course.{IsLeft, IsMade, IsOnCourse, Solves, placed, with_task}
 use Rattle.bp_revise.specs.Revised.{AreSolvedPoints, IsOtherPart, SolvedPart}
 use Rattle.bp_revise.specs.Revised.IsGrown.{child as grown_child}
-use Rattle.bp_revise.proofs.PathPairs.{longer_pairs, next_can}
-use Rattle.bp_revise.proofs.ShownCounts.{shown_counts}
+use Rattle.bp_written.proofs.PathPairs.{longer_pairs, next_can}
+use Rattle.bp_written.proofs.ShownCounts.{shown_counts}
 
 -- Lists with one element more.
 

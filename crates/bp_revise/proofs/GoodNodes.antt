@@ -1,8 +1,8 @@
--- A refutation fits exactly where each of its nodes may stand at its path, and then none of its branches is lost or doubled.
+-- Where a refutation fits, each of its nodes may stand at its path, and none of its branches is lost or doubled.
 use Rattle.std.proofs.Common.{◌≡◌, ℕ, suc, ◌+◌, not, List, [], ◌∷◌, ◌++◌, length, map, All, refl, sym, ap, subst, arith}
 use Rattle.std.specs.List.{flat_map, filter, sum_by, AllByRecursion}
 use Rattle.std.proofs.lemmas.List.{length-map}
-use Rattle.std.proofs.lemmas.List.Elements.{All-from_recursion, recursion_from_All}
+use Rattle.std.proofs.lemmas.List.Elements.{All-from_recursion}
 use Rattle.std.proofs.lemmas.List.Filters.{length-filter_both, sum_by-filter_both}
 use Rattle.std.proofs.lemmas.List.Sums.{sum_by-append, sum_by-cons}
 use Rattle.bp_base.specs.declared.path.Choice.{Choice}
@@ -15,9 +15,8 @@ use Rattle.bp_base.specs.declared.record.RecordKind.TheVariants as sort
 use Rattle.bp_base.specs.declared.record.Task.{Task}
 use Rattle.bp_base.specs.declared.refutation.Refutation.{Refutation}
 use Rattle.bp_base.specs.declared.refutation.Refutation.TheVariants.{Split, Closed, Open}
-use Rattle.bp_base.specs.Tree.{TreeValue, leaf_count}
+use Rattle.bp_base.specs.Tree.{TreeValue}
 use Rattle.bp_base.proofs.Bags.{sum_by-map, sum_by-flat_map}
-use Rattle.bp_metric.specs.Chains.{ClaimHolds}
 use Rattle.bp_metric.specs.Choices.{allowed}
 use Rattle.bp_metric.specs.Nodes.{Node, Part, SplitOf, ClosedBy, OpenBy, child_nodes, nodes_of, node_count_of}
 use Rattle.bp_metric.specs.Records.{IsBalanced, children, children_of, paths_left, paths_of}
@@ -27,36 +26,21 @@ use Rattle.bp_document.proofs.NodeLists.{by_nodes}
 use Rattle.bp_check.specs.Written.{is_examined, is_open}
 use Rattle.bp_check.proofs.Reading.{nodes_from, nodes-whole, nodes-split, nodes-closed, nodes-open}
 use Rattle.bp_join.specs.Joined.{node_of, part_of}
-use Rattle.bp_revise.specs.Apart.{IsOfPairs}
+use Rattle.bp_written.specs.Told.{IsOfPairs}
 use Rattle.bp_revise.specs.Course.{IsBegun}
-use Rattle.bp_revise.proofs.NodeParts.{parts_same}
-use Rattle.bp_revise.proofs.PathPairs.{longer_pairs, no_pairs}
-
-each_left : {X : Type 0} (P : X → Type 0) (xs ys : List X) → AllByRecursion P (xs ++ ys) → AllByRecursion P xs
-each_left P [] ys all = tt
-each_left P (x ∷ xs) ys all = (all.0, each_left P xs ys all.1)
-
-each_right : {X : Type 0} (P : X → Type 0) (xs ys : List X) → AllByRecursion P (xs ++ ys) → AllByRecursion P ys
-each_right P [] ys all = all
-each_right P (x ∷ xs) ys all = each_right P xs ys all.1
+use Rattle.bp_written.proofs.GoodNodes.{IsGood}
+use Rattle.bp_written.proofs.NodeParts.{parts_same}
+use Rattle.bp_written.proofs.PathPairs.{longer_pairs, no_pairs}
 
 each_both : {X : Type 0} (P : X → Type 0) (xs ys : List X) → AllByRecursion P xs → AllByRecursion P ys → AllByRecursion P (xs ++ ys)
 each_both P [] ys front back = back
 each_both P (x ∷ xs) ys front back = (front.0, each_both P xs ys front.1 back)
 
 module _ (T : TreeValue) (G : Sheet) where
-  abbrev pub PartGood : List Step → Part → Type 0
-  PartGood path (SplitOf p k) = CanSplit T path p × (k ≡ length (allowed T G p))
-  PartGood path (ClosedBy claim) = ClaimHolds (leaf_count T) path claim
-  PartGood path (OpenBy claim) = ClaimHolds (leaf_count T) path claim
-
-  abbrev pub IsGood : Node → Type 0
-  IsGood n = IsOfPairs T n.path × PartGood n.path n.part
-
   -- From the refutation to its nodes.
 
   abbrev HasGood : Refutation → Type 0
-  HasGood r = (path : List Step) → IsOfPairs T path → Fits T G r path → AllByRecursion IsGood (nodes_from T G r path)
+  HasGood r = (path : List Step) → IsOfPairs T path → Fits T G r path → AllByRecursion (IsGood T G) (nodes_from T G r path)
 
   abbrev below : List Step → Pair → List Choice → List Refutation → List Node
   below path p cs rs = child_nodes path p cs (map (nodes_from T G) rs)
@@ -67,57 +51,26 @@ module _ (T : TreeValue) (G : Sheet) where
   children_many path p (c ∷ cs) [] each = absurd each
   children_many path p (c ∷ cs) (r ∷ rs) each = ap suc (children_many path p cs rs each.1)
 
-  children_good : (path : List Step) (p : Pair) (cs : List Choice) (rs : List Refutation) → IsOfPairs T path → CanSplit T path p → AllByRecursion HasGood rs → EachFits (Fits T G) path p cs rs → AllByRecursion IsGood (below path p cs rs)
+  children_good : (path : List Step) (p : Pair) (cs : List Choice) (rs : List Refutation) → IsOfPairs T path → CanSplit T path p → AllByRecursion HasGood rs → EachFits (Fits T G) path p cs rs → AllByRecursion (IsGood T G) (below path p cs rs)
   children_good path p [] [] of can all each = tt
   children_good path p [] (r ∷ rs) of can all each = absurd each
   children_good path p (c ∷ cs) [] of can all each = absurd each
   children_good path p (c ∷ cs) (r ∷ rs) of can all each =
-      each_both IsGood (nodes_from T G r (extended path p c)) (below path p cs rs) (all.0 (extended path p c) (longer_pairs T path p c of can) each.0) (children_good path p cs rs of can all.1 each.1)
+      each_both (IsGood T G) (nodes_from T G r (extended path p c)) (below path p cs rs) (all.0 (extended path p c) (longer_pairs T path p c of can) each.0) (children_good path p cs rs of can all.1 each.1)
 
   split_good : (p : Pair) (rs : List Refutation) → AllByRecursion HasGood rs → HasGood (Split p rs)
   split_good p rs all path of fits =
       let both : CanSplit T path p × EachFits (Fits T G) path p (allowed T G p) rs = coe 0 1 (i. fits-split T G p rs path i) fits in
-      subst (AllByRecursion IsGood) (sym (nodes-split T G p rs path)) ((of, (both.0, children_many path p (allowed T G p) rs both.1)), children_good path p (allowed T G p) rs of both.0 all both.1)
+      subst (AllByRecursion (IsGood T G)) (sym (nodes-split T G p rs path)) ((of, (both.0, children_many path p (allowed T G p) rs both.1)), children_good path p (allowed T G p) rs of both.0 all both.1)
 
-  pub nodes_good : (r : Refutation) (path : List Step) → IsOfPairs T path → Fits T G r path → AllByRecursion IsGood (nodes_from T G r path)
+  pub nodes_good : (r : Refutation) (path : List Step) → IsOfPairs T path → Fits T G r path → AllByRecursion (IsGood T G) (nodes_from T G r path)
   nodes_good =
       by_nodes HasGood split_good
-      (λ claim path of fits. subst (AllByRecursion IsGood) (sym (nodes-closed T G claim path)) ((of, coe 0 1 (i. fits-closed T G claim path i) fits), tt))
-      (λ claim path of fits. subst (AllByRecursion IsGood) (sym (nodes-open T G claim path)) ((of, coe 0 1 (i. fits-open T G claim path i) fits), tt))
+      (λ claim path of fits. subst (AllByRecursion (IsGood T G)) (sym (nodes-closed T G claim path)) ((of, coe 0 1 (i. fits-closed T G claim path i) fits), tt))
+      (λ claim path of fits. subst (AllByRecursion (IsGood T G)) (sym (nodes-open T G claim path)) ((of, coe 0 1 (i. fits-open T G claim path i) fits), tt))
 
-  pub all_good : (r : Refutation) → Fits T G r [] → All IsGood (nodes_of T G r)
-  all_good r fits = subst (All IsGood) (sym (nodes-whole T G r)) (All-from_recursion IsGood (nodes_from T G r []) (nodes_good r [] (no_pairs T) fits))
-
-  -- From its nodes to the refutation.
-
-  abbrev FitsIfGood : Refutation → Type 0
-  FitsIfGood r = (path : List Step) → AllByRecursion IsGood (nodes_from T G r path) → Fits T G r path
-
-  children_fit : (path : List Step) (p : Pair) (cs : List Choice) (rs : List Refutation) → length rs ≡ length cs → AllByRecursion FitsIfGood rs → AllByRecursion IsGood (below path p cs rs) → EachFits (Fits T G) path p cs rs
-  children_fit path p [] [] many all each = tt
-  children_fit path p [] (r ∷ rs) many all each = absurd (omega (arith, many))
-  children_fit path p (c ∷ cs) [] many all each = absurd (omega (arith, many))
-  children_fit path p (c ∷ cs) (r ∷ rs) many all each =
-      let ns = nodes_from T G r (extended path p c) in
-      let more = below path p cs rs in (
-        all.0 (extended path p c) (each_left IsGood ns more each),
-        children_fit path p cs rs (omega (arith, many)) all.1 (each_right IsGood ns more each),
-      )
-
-  split_fit : (p : Pair) (rs : List Refutation) → AllByRecursion FitsIfGood rs → FitsIfGood (Split p rs)
-  split_fit p rs all path each =
-      let own = subst (AllByRecursion IsGood) (nodes-split T G p rs path) each in
-      coe 0 1 (i. sym (fits-split T G p rs path) i) (own.0.1.0, children_fit path p (allowed T G p) rs own.0.1.1 all own.1)
-
-  fits_if_good : (r : Refutation) → FitsIfGood r
-  fits_if_good =
-      by_nodes FitsIfGood split_fit
-      (λ claim path each. let own = subst (AllByRecursion IsGood) (nodes-closed T G claim path) each in coe 0 1 (i. sym (fits-closed T G claim path) i) own.0.1)
-      (λ claim path each. let own = subst (AllByRecursion IsGood) (nodes-open T G claim path) each in coe 0 1 (i. sym (fits-open T G claim path) i) own.0.1)
-
-  pub good_fits : (r : Refutation) → All IsGood (nodes_of T G r) → Fits T G r []
-  good_fits r all =
-      fits_if_good r [] (subst (AllByRecursion IsGood) (nodes-whole T G r) (recursion_from_All IsGood (nodes_of T G r) all))
+  pub all_good : (r : Refutation) → Fits T G r [] → All (IsGood T G) (nodes_of T G r)
+  all_good r fits = subst (All (IsGood T G)) (sym (nodes-whole T G r)) (All-from_recursion (IsGood T G) (nodes_from T G r []) (nodes_good r [] (no_pairs T) fits))
 
   -- Its branches: the root and the children of splits are the paths of its nodes.
 

@@ -28,7 +28,7 @@ use Rattle.bp_check.specs.Written.{CountsFrom}
 use Rattle.bp_check.proofs.Claims.{leaves_of}
 use Rattle.bp_revise.specs.Keep.{AreOfOneShape, FitsShape, falls_short, kept, kept_at, kept_of, one_leaf}
 use Rattle.bp_revise.specs.Revised.{HasRoom, PartCounts}
-use Rattle.bp_revise.proofs.NodeParts.{parts_same}
+use Rattle.bp_written.proofs.NodeParts.{parts_same}
 use Rattle.bp_revise.proofs.Shapes.{same_allowed, same_leaves}
 
 -- what holds of all images holds of all

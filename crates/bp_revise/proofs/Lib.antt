@@ -1,16 +1,9 @@
 mod Shapes
-mod NodeParts
 mod Keeps
 mod Starts
-mod Weights
-mod PathPairs
-mod SameNodes
 mod GoodNodes
 mod Takings
-mod ShownCounts
 mod Courses
-mod FoundNodes
-mod Covered
 mod Finals
 mod Begins
 mod Documents

@@ -1,10 +1,9 @@
 -- A kept proof taken apart: its split and closed nodes, and the paths of its open ones.
-use Rattle.std.specs.Prelude.{◌≢◌, List, AllPairs, filter, map}
+use Rattle.std.specs.Prelude.{List, filter, map}
 use Rattle.bp_base.specs.declared.path.Step.{Step}
 use Rattle.bp_base.specs.declared.point.Sheet.{Sheet}
 use Rattle.bp_base.specs.declared.refutation.Refutation.{Refutation, fold-Refutation}
-use Rattle.bp_base.specs.Tree.{TreeValue, leaf_count}
-use Rattle.bp_metric.specs.Chains.{HasPairsOf}
+use Rattle.bp_base.specs.Tree.{TreeValue}
 use Rattle.bp_metric.specs.Nodes.{Node, nodes_at}
 use Rattle.bp_check.specs.Written.{is_examined, is_open}
 
@@ -19,8 +18,3 @@ examined nodes = filter (λ (n : Node). is_examined n.part) nodes
 -- the paths of the open nodes, in order
 abbrev pub open_paths : List Node → List (List Step)
 open_paths nodes = map (λ (n : Node). n.path) (filter (λ (n : Node). is_open n.part) nodes)
-
--- different pairs of leaves
-pub record IsOfPairs (T : TreeValue) (path : List Step) : Type 0 where
-  pub pairs : HasPairsOf (leaf_count T) path
-  pub differ : AllPairs (λ (s t : Step). s.pair ≢ t.pair) path

@@ -1,7 +1,6 @@
 -- A revision on its way: what was examined beside what is kept, and what is left.
 use Rattle.std.specs.Prelude.{◌≡◌, ◌⊎◌, ℕ, ◌<◌, ◌≤◌, List, [], ◌∷◌, ◌++◌, length, map, All, Any, Option, None, Some}
 use Rattle.bp_base.specs.declared.path.Step.{Step}
-use Rattle.bp_base.specs.declared.point.Floor.{Floor}
 use Rattle.bp_base.specs.declared.point.Placement.{Placement}
 use Rattle.bp_base.specs.declared.point.Sheet.{Sheet}
 use Rattle.bp_base.specs.declared.record.Record.{Record}
@@ -11,17 +10,17 @@ use Rattle.bp_base.specs.declared.refutation.Refutation.{Refutation}
 use Rattle.bp_base.specs.Limits.{most_proof_lines}
 use Rattle.bp_base.specs.Tree.{TreeValue}
 use Rattle.bp_metric.specs.Distance.{most_side}
-use Rattle.bp_metric.specs.Floor.{FloorHolds, IsFloor}
+use Rattle.bp_metric.specs.Floor.{IsFloor}
 use Rattle.bp_metric.specs.Nodes.{Node, node_count_of, nodes_of}
 use Rattle.bp_metric.specs.Records.{IsBalanced, paths_left}
 use Rattle.bp_metric.specs.Refutation.{Fits}
 use Rattle.bp_metric.specs.Valid.{Valid}
-use Rattle.bp_floor.specs.Small.{IsSmall}
 use Rattle.bp_document.specs.declared.document.Document.{Document}
 use Rattle.bp_document.specs.Ranges.{IsDocument}
 use Rattle.bp_check.specs.Checks.{Checks}
 use Rattle.bp_join.specs.Joined.{node_of}
-use Rattle.bp_revise.specs.Apart.{IsOfPairs, examined, open_paths}
+use Rattle.bp_written.specs.Told.{IsOfPairs}
+use Rattle.bp_revise.specs.Apart.{examined, open_paths}
 use Rattle.bp_revise.specs.Revised.{AreSolvedPoints, HasRevisedProof, IsGrown, IsOther, IsSolved, PartCounts, budget_beside}
 
 -- a record that was made
@@ -91,9 +90,3 @@ pub record IsWrittenFrom (T : TreeValue) (G : Sheet) (B : ℕ) (start : Placemen
   pub points : D.side ≡ start.side → D.points ≡ start.points
   pub solved : D.side < start.side → AreSolvedPoints T G start.side (open_paths (nodes_of T G kept)) D.side D.points
   pub proof : HasRevisedProof T G B start.side kept D D.proof
-
--- the tree's floor on the sheet, as a document tells it
-pub record IsFloorOf (T : TreeValue) (G : Sheet) (f : Floor) : Type 0 where
-  pub floor : IsFloor T G f
-  pub holds : FloorHolds T G f
-  pub small : IsSmall f

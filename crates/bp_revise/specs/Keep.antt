@@ -45,6 +45,3 @@ kept_of T G start (Some r) = kept T G start r
 -- the refutation fits some path on some tree of the same shape
 abbrev pub FitsShape : TreeValue → Sheet → Refutation → Type 0
 FitsShape T G r = (S : TreeValue) × AreOfOneShape S T × ((path : List Step) × Fits S G r path)
-
-abbrev pub FitsSome : TreeValue → Sheet → Refutation → Type 0
-FitsSome T G r = (path : List Step) × Fits T G r path

@@ -3,7 +3,8 @@ ghost use Rattle.std.specs.Prelude.{◌≡◌, ◌++◌, ◌∷◌, [], map, OnO
 ghost use Rattle.bp_metric.specs.Records.{paths_left};
 ghost use Rattle.bp_metric.specs.Refutation.{Fits};
 ghost use Rattle.bp_join.specs.Joined.{node_of};
-ghost use Rattle.bp_revise.specs.Apart.{IsOfPairs, examined, nodes_below, open_paths};
+ghost use Rattle.bp_written.specs.Told.{IsOfPairs};
+ghost use Rattle.bp_revise.specs.Apart.{examined, nodes_below, open_paths};
 
 use bp_base::{NoMemory, Path, Record, RecordKind, Refutation, Sequence, Step, Task};
 use bp_branch::extended;

@@ -8,7 +8,6 @@ mod revising;
 mod searching;
 mod shape;
 mod starting;
-mod weighing;
 
 pub use keeping::keep;
 pub use laws::{law_of_keep, one_start};

@@ -1,7 +1,5 @@
 // An old design for new lengths.
 ghost use Rattle.std.specs.Prelude.{◌≡◌, ◌≤◌, ℕ, [], IfOk, length};
-ghost use Rattle.bp_base.specs.declared.point.Placement.{Placement as AnyPlacement};
-ghost use Rattle.bp_base.specs.declared.refutation.Refutation.{Refutation as AnyRefutation};
 ghost use Rattle.bp_base.specs.Limits.{most_document_bytes};
 ghost use Rattle.bp_metric.specs.Metric.{IsMetric, IsSheet};
 ghost use Rattle.bp_metric.specs.Nodes.{nodes_of};
@@ -10,9 +8,9 @@ ghost use Rattle.bp_metric.specs.Valid.{NoneBelow, Valid};
 ghost use Rattle.bp_document.specs.Ranges.{IsDocument};
 ghost use Rattle.bp_document.specs.Text.{doc_text};
 ghost use Rattle.bp_check.specs.Checks.{Checks};
-ghost use Rattle.bp_check.specs.Written.{IsWanted, bound_of};
+ghost use Rattle.bp_check.specs.Written.{IsWanted};
 ghost use Rattle.bp_revise.specs.Apart.{open_paths};
-ghost use Rattle.bp_revise.specs.Course.{IsBegun, IsEnded, IsFloorOf, IsOnCourse, IsWrittenFrom};
+ghost use Rattle.bp_revise.specs.Course.{IsBegun, IsOnCourse};
 ghost use Rattle.bp_revise.specs.Keep.{AreOfOneShape};
 ghost use Rattle.bp_revise.specs.Revised.{HasRoom, IsRevised};
 
@@ -20,16 +18,12 @@ use crate::apart::{Parts, take_apart};
 use crate::keeping::keep;
 use crate::searching::search;
 use crate::starting::start;
-use crate::weighing::weighed;
-use bp_base::{
-    Floor, MOST_PROOF_LINES, NoMemory, Path, Placement, Refutation, Sequence, Settled, Tree,
-};
+use bp_base::{MOST_PROOF_LINES, NoMemory, Path, Placement, Refutation, Sequence, Settled, Tree};
 use bp_check::{law_of_checked_texts, law_of_checks};
 use bp_document::Document;
-use bp_floor::{floor, law_of_floors};
-use bp_join::join;
+use bp_floor::floor;
 use bp_metric::Metric;
-use bp_symmetry::refutation_counts;
+use bp_written::document_of;
 use std::alloc::Global;
 
 /// The old design revised for a tree of the same shape: it keeps of the old proof what still closes on the new lengths, and searches the
@@ -127,60 +121,4 @@ fn begin(
         points,
         examined: 0,
     })
-}
-
-// What a revision has come to, as a document.
-fn document_of(
-    alloc: Global,
-    metric: &Metric,
-    settled: Settled,
-    floor: Floor,
-) -> Result<Document, NoMemory>
-    requires floor { IsFloorOf metric.now.tree metric.now.sheet floor }
-    requires ended { (B : ℕ) × (start : AnyPlacement) × (kept : AnyRefutation) × IsEnded metric.now.tree metric.now.sheet B floor.side start kept settled }
-    ensures { IfOk result (λ D. (B : ℕ) (start : AnyPlacement) (kept : AnyRefutation) → IsEnded metric.now.tree metric.now.sheet B floor.side start kept settled → IsWrittenFrom metric.now.tree metric.now.sheet B start kept D) }
-{
-    law_of_floors(metric);
-    refutation_counts(metric);
-    let tree = metric.tree().copy(alloc)?;
-    let sheet = metric.sheet();
-    let Settled {
-        records,
-        left,
-        side,
-        points,
-        ..
-    } = settled;
-    if side == floor.side {
-        return Ok(Document {
-            tree,
-            side,
-            bound: side,
-            points,
-            floor,
-            proof: None,
-            sheet,
-        });
-    }
-    let refutation = join(alloc, metric, records.into_vec(), left.into_vec())?;
-    let bound = bound_of(side, floor.side, weighed(metric, &refutation));
-    Ok(Document {
-        tree,
-        side,
-        bound,
-        points,
-        floor,
-        proof: Some(refutation),
-        sheet,
-    })
-}
-
-// The bound that a proof of this weight gives.
-fn bound_of(side: u64, floor: u64, weight: Option<u64>) -> u64
-    ensures { result ≡ bound_of side floor weight }
-{
-    match weight {
-        None => side,
-        Some(weight) => side.min(floor.max(weight)),
-    }
 }

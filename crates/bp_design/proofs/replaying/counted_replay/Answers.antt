@@ -4,14 +4,14 @@ use Rattle.bp_design.proofs.Replays.{none_counted, search_counted}
 use Rattle.bp_design.proofs.Searches.{opening_above}
 use Rattle.bp_design.proofs.replaying.counted_replay.Goals as goal
 
-pub document_of-requires-clause-above : goal.document_of-requires-clause-above
-document_of-requires-clause-above c =
+pub design_of-requires-clause-above : goal.design_of-requires-clause-above
+design_of-requires-clause-above c =
     let o = c.in_ok-opening.ensures in
     opening_above c.args.metric.now.tree c.args.metric.now.sheet c.in_ok-opening.opening c.in_ok-floor.floor (record { opening = o.opening; side = o.side; small = o.small }) c.if-opening-floor.true c.one_opening.ensures
 
 pub returns-then-opening-floor-clause-design : goal.returns-then-opening-floor-clause-design
 returns-then-opening-floor-clause-design c =
-    is_design c.args.metric.now c.law_of_checks.ensures.none_below c.law_of_checks.ensures.bound c.law_of_checks.ensures.wanted c.law_of_checked_texts.ensures.short c.args.budget c.in_ok-document.document (c.in_ok-document.ensures.searched c.args.budget c.requires.budget.1 c.in_ok-settled.ensures.settled)
+    is_design c.args.metric.now c.law_of_checks.ensures.none_below c.law_of_checks.ensures.bound c.law_of_checks.ensures.wanted c.law_of_checked_texts.ensures.short c.args.budget c.in_ok-document.document (c.in_ok-document.ensures.searched c.args.budget c.in_ok-settled.ensures.settled)
 
 pub returns-then-opening-floor-clause-counted : goal.returns-then-opening-floor-clause-counted
 returns-then-opening-floor-clause-counted c =

@@ -8,8 +8,8 @@ use Rattle.bp_base.specs.declared.refutation.Refutation.{Refutation}
 use Rattle.bp_metric.specs.Nodes.{ClosedBy, node_count_of}
 use Rattle.bp_document.proofs.Nodes.{child_smaller}
 use Rattle.bp_revise.specs.declared.apart.Parts.{Parts}
-use Rattle.bp_revise.specs.Apart.{IsOfPairs}
-use Rattle.bp_revise.proofs.PathPairs.{longer_pairs, pairs_room}
+use Rattle.bp_written.specs.Told.{IsOfPairs}
+use Rattle.bp_written.proofs.PathPairs.{longer_pairs, pairs_room}
 use Rattle.bp_revise.proofs.Takings.{can_split, child_fits, closed_taken, many_children, open_taken, taken_all, taken_more, taken_none}
 use Rattle.bp_revise.proofs.apart.+take_apart.Goals as goal
 

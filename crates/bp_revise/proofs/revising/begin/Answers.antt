@@ -2,10 +2,11 @@ use Rattle.std.proofs.Common.{◌∙◌, ◌++◌, map, refl, sym, subst}
 use Rattle.bp_metric.specs.Records.{paths_left}
 use Rattle.bp_metric.specs.Refutation.{Fits}
 use Rattle.bp_join.specs.Joined.{node_of}
-use Rattle.bp_revise.specs.Apart.{IsOfPairs, examined, nodes_below, open_paths}
+use Rattle.bp_written.specs.Told.{IsOfPairs}
+use Rattle.bp_revise.specs.Apart.{examined, nodes_below, open_paths}
 use Rattle.bp_revise.specs.Course.{IsBegun}
 use Rattle.bp_revise.proofs.Begins.{begins, on_course}
-use Rattle.bp_revise.proofs.PathPairs.{no_pairs}
+use Rattle.bp_written.proofs.PathPairs.{no_pairs}
 use Rattle.bp_revise.proofs.revising.begin.Goals as goal
 
 pub take_apart-requires-clause-fits : goal.take_apart-requires-clause-fits

@@ -1,6 +1,6 @@
 use Rattle.std.proofs.Common.{◌≡◌, map, take}
 use Rattle.bp_metric.specs.Nodes.{least_of, node_count_of, weighs}
-use Rattle.bp_revise.proofs.weighing.+weighed.Given as goal
+use Rattle.bp_written.proofs.weighing.+weighed.Given as goal
 
 abbrev pub decreases-weighed : goal.decreases-weighed
 decreases-weighed l = node_count_of l.refutation.now

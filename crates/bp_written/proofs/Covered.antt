@@ -1,8 +1,9 @@
 -- The paths of records and of tasks left are all different, and each record has at most four children.
-use Rattle.std.proofs.Common.{◌≡◌, ◌≢◌, ℕ, zero, suc, ◌+◌, ◌*◌, ◌≤◌, Bool, true, false, ◌&&◌, ◌==◌, cond, List, [], ◌∷◌, ◌++◌, length, get_or, refl, sym, ap, ◌∙◌, subst, arith, length-append}
+use Rattle.std.proofs.Common.{◌≡◌, ◌≢◌, ℕ, zero, suc, ◌+◌, ◌*◌, ◌≤◌, Bool, true, false, ◌&&◌, ◌==◌, cond, List, [], ◌∷◌, ◌++◌, length, get_or, All, refl, sym, ap, ◌∙◌, subst, arith, length-append}
 use Rattle.std.specs.List.{AllPairs, sum_by, flat_map}
 use Rattle.std.proofs.lemmas.Grind.{flat_map-append}
 use Rattle.std.proofs.lemmas.List.{length-map, map-append}
+use Rattle.std.proofs.lemmas.List.Elements.{All-append, All-map}
 use Rattle.std.proofs.lemmas.List.Kept.{AllPairs-cons}
 use Rattle.std.proofs.lemmas.List.Sums.{sum_by-cons, sum_by-append, get_or-le-sum_by}
 use Rattle.bp_base.specs.declared.path.Choice.{Choice}
@@ -188,11 +189,14 @@ module _ (T : TreeValue) (G : Sheet) where
     paths_many : length paths ≡ length records + length left
     paths_many = omega (arith, length-append (paths_of records) (paths_left left), length-map records (λ (r : Record). r.path), length-map left (λ (t : Task). t.path))
 
-    -- records and tasks that are a part of these have different paths too
-    pub differ_beside : (base made : List Record) → records ≡ base ++ made → AllPairs (λ p r. p ≢ r) (paths_of made ++ paths_left left)
-    differ_beside base made is =
-        distinct (paths_of made ++ paths_left left) (λ p. (
+    -- records and tasks that are a part of these have different paths too, so a budget that covers such paths covers them
+    pub all_covered : (base made : List Record) → records ≡ base ++ made → (P : List Step → Type 0) → All (λ (r : Record). P r.path) made → All (λ (t : Task). P t.path) left → (B : ℕ) → ((ps : List (List Step)) → All P ps → AllPairs (λ p r. p ≢ r) ps → length ps ≤ B) → length made + length left ≤ B
+    all_covered base made is P first second B covers =
+        let mine = paths_of made ++ paths_left left in
         let of_record : Record → List Step = λ r. r.path in
+        let all = All-append P (paths_of made) (paths_left left) (All-map P of_record made first) (All-map P (λ (t : Task). t.path) left second) in
+        let differ : AllPairs (λ p r. p ≢ r) mine =
+        distinct mine (λ p. (
         let h = at p in
         omega (
           arith,
@@ -202,7 +206,14 @@ module _ (T : TreeValue) (G : Sheet) where
           ap (λ (rs : List Record). sum_by h (paths_of rs)) is,
           ap (sum_by h) (map-append of_record base made),
           sum_by-append h (paths_of base) (paths_of made),
-        )))
+        ))) in
+        omega (
+          arith,
+          covers mine all differ,
+          length-append (paths_of made) (paths_left left),
+          length-map made of_record,
+          length-map left (λ (t : Task). t.path),
+        )
 
 few_children : (T : TreeValue) (G : Sheet) (rs : List Record) → length (flat_map (children_of T G) rs) ≤ 4 * length rs
 few_children T G [] = omega arith

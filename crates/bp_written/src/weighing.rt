@@ -1,7 +1,7 @@
 // What a refutation weighs.
 ghost use Rattle.std.specs.Prelude.{◌≡◌};
 ghost use Rattle.bp_metric.specs.Nodes.{lesser, weighs};
-ghost use Rattle.bp_revise.specs.Keep.{FitsSome};
+ghost use Rattle.bp_written.specs.Told.{FitsSome};
 
 use bp_base::Refutation;
 use bp_chain::counted;

@@ -1,5 +1,5 @@
 -- The nodes of records and of tasks left, joined to one refutation: what holds of all of them, and how many there are.
-use Rattle.std.proofs.Common.{◌≡◌, ℕ, suc, ◌+◌, ◌<◌, Bool, cond, List, [], ◌∷◌, ◌++◌, length, get_or, map, All, refl, ap, ◌∙◌, arith, length-append}
+use Rattle.std.proofs.Common.{◌≡◌, ℕ, suc, ◌+◌, ◌<◌, Bool, cond, List, [], ◌∷◌, ◌++◌, length, get_or, map, All, refl, sym, ap, ◌∙◌, subst, arith, length-append}
 use Rattle.std.specs.List.{AllByRecursion, Any, sum_by}
 use Rattle.std.proofs.lemmas.List.{length-map, get_or-map, get_or_append_left}
 use Rattle.std.proofs.lemmas.List.Elements.{All-append, All-from_recursion, recursion_from_All, All-map}
@@ -19,15 +19,19 @@ use Rattle.bp_base.specs.Tree.{TreeValue, IsTree, leaf_count}
 use Rattle.bp_base.proofs.Bags.{same_sym, same-length}
 use Rattle.bp_metric.specs.Chains.{ClaimHolds, IsChain}
 use Rattle.bp_metric.specs.Coordinates.{IsShown, IsShownOrCycle}
-use Rattle.bp_metric.specs.Nodes.{Node, Part, nodes_of}
+use Rattle.bp_metric.specs.Nodes.{Node, OpenBy, Part, nodes_of}
 use Rattle.bp_metric.proofs.Lows.{chain_few}
 use Rattle.bp_document.specs.Ranges.{IsChainOf}
 use Rattle.bp_check.specs.Written.{is_examined, is_open, examined_count, open_count}
 use Rattle.bp_join.specs.Joined.{AreOpenNodes, IsJoined, IsOpenNode, node_of, part_of}
-use Rattle.bp_design.proofs.SameNodes.{all_nodes, any_node}
+use Rattle.bp_written.proofs.SameNodes.{all_nodes, any_node}
 
 module _ (T : TreeValue) (G : Sheet) where
-  open_all : (Q : Task → Type 0) (P : Node → Type 0) → ((t : Task) (n : Node) → Q t → IsOpenNode T G t n → P n) → (left : List Task) (opens : List Node) → AreOpenNodes T G left opens → AllByRecursion Q left → AllByRecursion P opens
+  -- an open node stands at its task's path
+  pub open_at : (P : List Step → Part → Type 0) (x : Task) (n : Node) (is : IsOpenNode T G x n) → P x.path (OpenBy is.claim) → P n.path n.part
+  open_at P x n is p = subst (λ (path : List Step). P path n.part) (sym is.path) (subst (P x.path) (sym is.part) p)
+
+  pub open_all : (Q : Task → Type 0) (P : Node → Type 0) → ((t : Task) (n : Node) → Q t → IsOpenNode T G t n → P n) → (left : List Task) (opens : List Node) → AreOpenNodes T G left opens → AllByRecursion Q left → AllByRecursion P opens
   open_all Q P step [] [] are all = tt
   open_all Q P step [] (n ∷ opens) are all = absurd are
   open_all Q P step (t ∷ left) [] are all = absurd are

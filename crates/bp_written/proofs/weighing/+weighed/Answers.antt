@@ -2,8 +2,8 @@ use Rattle.std.proofs.Common.{◌≡◌, ◌<◌, ◌∙◌, ap, arith, List, le
 use Rattle.bp_base.specs.declared.refutation.Refutation.{Refutation}
 use Rattle.bp_metric.specs.Nodes.{node_count_of}
 use Rattle.bp_document.proofs.Nodes.{child_smaller}
-use Rattle.bp_design.proofs.Weights.{weigh_more, weigh_all, child_fits, closed_leaves, open_leaves, closed_weighs, open_weighs}
-use Rattle.bp_design.proofs.weighing.+weighed.Goals as goal
+use Rattle.bp_written.proofs.Weights.{weigh_more, weigh_all, child_fits, closed_leaves, open_leaves, closed_weighs, open_weighs}
+use Rattle.bp_written.proofs.weighing.+weighed.Goals as goal
 
 pub weighed-requires : goal.weighed-requires
 weighed-requires t c =

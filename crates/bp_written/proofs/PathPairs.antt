@@ -16,7 +16,7 @@ use Rattle.bp_metric.specs.Next.{IsNextPair}
 use Rattle.bp_metric.specs.Refutation.{CanSplit, extended}
 use Rattle.bp_branch.specs.Branches.{IsBranch}
 use Rattle.bp_branch.proofs.Picked.{differing_short, longer_branch}
-use Rattle.bp_revise.specs.Apart.{IsOfPairs}
+use Rattle.bp_written.specs.Told.{IsOfPairs}
 
 pub no_pairs : (T : TreeValue) → IsOfPairs T []
 no_pairs T = record {

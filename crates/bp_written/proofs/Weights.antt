@@ -18,7 +18,7 @@ use Rattle.bp_symmetry.proofs.Least.{weighs-split, weighs-closed, weighs-open}
 use Rattle.bp_chain.specs.Counting.{chain_of}
 use Rattle.bp_check.proofs.Claims.{leaves_of}
 use Rattle.bp_check.proofs.Joined.{lesser_none, lesser_assoc}
-use Rattle.bp_design.specs.Searched.{FitsSome}
+use Rattle.bp_written.specs.Told.{FitsSome}
 
 least_push : (ws : List (Option ℕ)) (w : Option ℕ) → least_of (ws ++ w ∷ []) ≡ lesser (least_of ws) w
 least_push [] w = lesser_none w

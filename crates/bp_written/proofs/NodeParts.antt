@@ -20,11 +20,11 @@ use Rattle.bp_document.proofs.NodeLists.{by_nodes}
 use Rattle.bp_document.proofs.Nodes.{depth-split, depth-closed, depth-open}
 use Rattle.bp_check.proofs.Reading.{nodes_from, nodes-whole, nodes-split, nodes-closed, nodes-open}
 
-each_left : {X : Type 0} (P : X → Type 0) (xs ys : List X) → AllByRecursion P (xs ++ ys) → AllByRecursion P xs
+pub each_left : {X : Type 0} (P : X → Type 0) (xs ys : List X) → AllByRecursion P (xs ++ ys) → AllByRecursion P xs
 each_left P [] ys all = tt
 each_left P (x ∷ xs) ys all = (all.0, each_left P xs ys all.1)
 
-each_right : {X : Type 0} (P : X → Type 0) (xs ys : List X) → AllByRecursion P (xs ++ ys) → AllByRecursion P ys
+pub each_right : {X : Type 0} (P : X → Type 0) (xs ys : List X) → AllByRecursion P (xs ++ ys) → AllByRecursion P ys
 each_right P [] ys all = all
 each_right P (x ∷ xs) ys all = each_right P xs ys all.1
 
