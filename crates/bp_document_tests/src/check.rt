@@ -16,6 +16,7 @@ use bp_metric::Metric;
 use bp_samples::tree;
 use sqlite_items::Items;
 use std::alloc::Global;
+use std::process::Abort;
 use std::test::Fail;
 
 // The word of a proof line behind the depth.
@@ -75,26 +76,49 @@ struct Done {
 // The proof of these lines, which is made from the last line on.
 fn proof(alloc: Global, rows: &[Row]) -> Result<Option<Refutation>, Fail> {
     let mut done = Vec::new(alloc);
+    let result = first_part(alloc, &mut done, rows);
+    // Dropped by a call, as other large values here: the proof of a drop in place goes through all that the value holds, branch by branch.
+    drop(done);
+    result
+}
+
+// Makes the parts of these lines, and takes the first of them.
+fn first_part(
+    alloc: Global,
+    done: &mut Vec<Done>,
+    rows: &[Row],
+) -> Result<Option<Refutation>, Fail> {
     for k in 0..rows.len() {
-        let row = rows[rows.len() - 1 - k];
-        let node = match row.word {
-            Word::Split => Refutation::Split {
-                pair: pair(row.numbers)?,
-                children: children(alloc, &mut done, row.depth)?,
-            },
-            Word::Open => Refutation::Open {
-                claim: claim(alloc, &row)?,
-            },
-            _ => Refutation::Closed {
-                claim: claim(alloc, &row)?,
-            },
-        };
-        let depth = row.depth;
-        done.push(Done { depth, node })?;
+        add_part(alloc, done, &rows[rows.len() - 1 - k])?;
     }
     match done.pop() {
         None => Ok(None),
         Some(last) => Ok(Some(last.node)),
+    }
+}
+
+fn add_part(alloc: Global, done: &mut Vec<Done>, row: &Row) -> Result<(), Fail> {
+    let depth = row.depth;
+    let node = part(alloc, done, row)?;
+    done.push(Done { depth, node })?;
+    Ok(())
+}
+
+fn part(alloc: Global, done: &mut Vec<Done>, row: &Row) -> Result<Refutation, Fail> {
+    match row.word {
+        Word::Split => {
+            let pair = pair(row.numbers)?;
+            let children = children(alloc, done, row.depth)?;
+            Ok(Refutation::Split { pair, children })
+        }
+        Word::Open => {
+            let claim = claim(alloc, row)?;
+            Ok(Refutation::Open { claim })
+        }
+        _ => {
+            let claim = claim(alloc, row)?;
+            Ok(Refutation::Closed { claim })
+        }
     }
 }
 
@@ -111,17 +135,42 @@ fn pair(numbers: &[u64]) -> Result<Pair, Fail> {
 // What is deeper, in order.
 fn children(alloc: Global, done: &mut Vec<Done>, depth: u64) -> Result<Items<Refutation>, Fail> {
     let mut children = Items::new(alloc);
+    let filled = take_deeper(&mut children, done, depth);
+    kept(children, filled)
+}
+
+// The value, which is dropped where what filled it failed.
+fn kept<T: Drop>(value: T, filled: Result<(), Fail>) -> Result<T, Fail> {
+    filled?;
+    Ok(value)
+}
+
+fn take_deeper(
+    children: &mut Items<Refutation>,
+    done: &mut Vec<Done>,
+    depth: u64,
+) -> Result<(), Fail> {
     for _ in 0..done.len() {
-        match done.pop() {
-            None => return Ok(children),
-            Some(last) if last.depth > depth => children.push(last.node)?,
-            Some(last) => {
-                done.push(last)?;
-                return Ok(children);
-            }
+        if !is_last_deeper(done, depth) {
+            return Ok(());
         }
+        take_last(children, done)?;
     }
-    Ok(children)
+    Ok(())
+}
+
+fn is_last_deeper(done: &[Done], depth: u64) -> bool {
+    match done.last() {
+        None => false,
+        Some(last) => last.depth > depth,
+    }
+}
+
+fn take_last(children: &mut Items<Refutation>, done: &mut Vec<Done>) -> Result<(), Fail> {
+    if let Some(last) = done.pop() {
+        children.push(last.node)?;
+    }
+    Ok(())
 }
 
 // What a document says beside its tree.
@@ -136,32 +185,74 @@ struct Sample<'a, 'b> {
     proof: &'a [Row<'b>],
 }
 
-fn document(alloc: Global, tree: &Tree, sample: &Sample) -> Result<Document, Fail> {
+fn points(alloc: Global, sample: &Sample) -> Result<Sequence<Point>, Fail> {
     let mut points = Sequence::new(alloc);
     for (x, y) in sample.points {
         points.push(Point { x: *x, y: *y })?;
     }
+    Ok(points)
+}
+
+fn floor(alloc: Global, sample: &Sample) -> Result<Floor, Fail> {
     let (m, side) = sample.floor;
     let leaves = Sequence::from_vec(Vec::from_slice(alloc, sample.leaves)?);
-    Ok(Document {
-        tree: tree.copy(alloc)?,
-        side: sample.side,
-        bound: sample.bound,
+    Ok(Floor { m, leaves, side })
+}
+
+// What a document has of a tree and a sample, but for the proof.
+#[derive(Drop)]
+struct Held {
+    tree: Tree,
+    points: Sequence<Point>,
+    floor: Floor,
+}
+
+fn held_of(alloc: Global, tree: &Tree, sample: &Sample) -> Result<Held, Fail> {
+    let points = points(alloc, sample)?;
+    let floor = floor(alloc, sample)?;
+    let tree = tree.copy(alloc)?;
+    Ok(Held {
+        tree,
         points,
-        floor: Floor { m, leaves, side },
-        proof: proof(alloc, sample.proof)?,
-        sheet: sample.sheet,
+        floor,
     })
+}
+
+fn document(alloc: Global, tree: &Tree, sample: &Sample) -> Result<Document, Fail> {
+    let proof = proof(alloc, sample.proof)?;
+    match held_of(alloc, tree, sample) {
+        Err(fail) => {
+            drop(proof);
+            Err(fail)
+        }
+        Ok(held) => Ok(Document {
+            tree: held.tree,
+            side: sample.side,
+            bound: sample.bound,
+            points: held.points,
+            floor: held.floor,
+            proof,
+            sheet: sample.sheet,
+        }),
+    }
 }
 
 // The verdict of a document of one tree against another.
 fn verdict(alloc: Global, own: &Tree, other: &Tree, sample: &Sample) -> Result<Verdict, Fail> {
     let document = document(alloc, own, sample)?;
+    let verdict = verdict_of(alloc, other, &document);
+    drop(document);
+    verdict
+}
+
+fn verdict_of(alloc: Global, tree: &Tree, document: &Document) -> Result<Verdict, Fail> {
     let metric = Metric::of(alloc, &document.tree)?;
-    if document.points.len() as u64 != metric.leaves() || !is_sheet(document.sheet) {
+    let leaves = metric.leaves();
+    drop(metric);
+    if document.points.len() as u64 != leaves || !is_sheet(document.sheet) {
         return Err(Fail::from("no document"));
     }
-    Ok(check(alloc, other, &document)?)
+    Ok(check(alloc, tree, document)?)
 }
 
 fn is_sheet(sheet: Sheet) -> bool
@@ -173,11 +264,37 @@ fn is_sheet(sheet: Sheet) -> bool
     }
 }
 
-#[test]
-fn star(rt: HostRuntime) -> Result<(), Fail> {
-    let alloc = rt.alloc();
-    let own = tree(alloc, &[0; 6], &[0, 2, 2, 2, 1, 1])?;
+// The document of one tree is checked against another; without a reason it is right.
+fn gives(
+    rt: &impl Abort,
+    alloc: Global,
+    own: &Tree,
+    other: &Tree,
+    sample: &Sample,
+    reason: Option<Reason>,
+) -> Result<(), Fail> {
+    let wanted = match reason {
+        None => Verdict::Yes,
+        Some(reason) => Verdict::No(reason),
+    };
+    assert_eq!(rt; verdict(alloc, own, other, sample)?, wanted);
+    Ok(())
+}
+
+fn differs(rt: &impl Abort, alloc: Global, own: &Tree, sample: &Sample) -> Result<(), Fail> {
     let other = tree(alloc, &[0; 6], &[0, 1, 1, 1, 1, 1])?;
+    let reason = Some(Reason::TreeDiffers);
+    let result = gives(rt, alloc, own, &other, sample, reason);
+    drop(other);
+    result
+}
+
+// A star with three leaves at 2 and two at 1.
+fn five(alloc: Global) -> Result<Tree, Fail> {
+    Ok(tree(alloc, &[0; 6], &[0, 2, 2, 2, 1, 1])?)
+}
+
+fn on_star(rt: &impl Abort, alloc: Global, own: &Tree) -> Result<(), Fail> {
     let opened = [split(0, &[1, 2]), leaf(1, Word::Open, Axis::X, &[1, 2])];
     let turned = [split(0, &[2, 1]), leaf(1, Word::Open, Axis::X, &[1, 2])];
     let far = [split(0, &[1, 2]), leaf(1, Word::Open, Axis::X, &[1, 17])];
@@ -195,11 +312,8 @@ fn star(rt: HostRuntime) -> Result<(), Fail> {
         leaves: &all,
         proof: &opened,
     };
-    assert_eq!(rt; verdict(alloc, &own, &own, &base)?, Verdict::Yes);
-    assert_eq!(rt;
-        verdict(alloc, &own, &other, &base)?,
-        Verdict::No(Reason::TreeDiffers)
-    );
+    gives(rt, alloc, own, own, &base, None)?;
+    differs(rt, alloc, own, &base)?;
     let rows = [
         (5, 5, &free, 4, &opened, Some(Reason::BoundNotShown)),
         (
@@ -226,19 +340,21 @@ fn star(rt: HostRuntime) -> Result<(), Fail> {
             proof,
             ..base
         };
-        let wanted = match reason {
-            None => Verdict::Yes,
-            Some(reason) => Verdict::No(reason),
-        };
-        assert_eq!(rt; verdict(alloc, &own, &own, &sample)?, wanted);
+        gives(rt, alloc, own, own, &sample, reason)?;
     }
     Ok(())
 }
 
 #[test]
-fn strips(rt: HostRuntime) -> Result<(), Fail> {
+fn star(rt: HostRuntime) -> Result<(), Fail> {
     let alloc = rt.alloc();
-    let own = tree(alloc, &[0; 6], &[0, 2, 2, 2, 1, 1])?;
+    let own = five(alloc)?;
+    let result = on_star(&rt, alloc, &own);
+    drop(own);
+    result
+}
+
+fn on_strips(rt: &impl Abort, alloc: Global, own: &Tree) -> Result<(), Fail> {
     let proof = [
         split(0, &[1, 2]),
         leaf(1, Word::Walk, Axis::X, &[1, 2]),
@@ -254,39 +370,40 @@ fn strips(rt: HostRuntime) -> Result<(), Fail> {
         leaves: &three,
         proof: &proof,
     };
-    assert_eq!(rt; verdict(alloc, &own, &own, &wide)?, Verdict::Yes);
+    gives(rt, alloc, own, own, &wide, None)?;
     let square = Sample {
         sheet: Sheet::Square,
         ..wide
     };
-    assert_eq!(rt;
-        verdict(alloc, &own, &own, &square)?,
-        Verdict::No(Reason::BadSplit { node: 0 })
-    );
+    let bad_split = Some(Reason::BadSplit { node: 0 });
+    gives(rt, alloc, own, own, &square, bad_split)?;
     // a walk on x counts with 0, or not at all where it is wider than the strip
     let low = Sample {
         floor: (1, 0),
         leaves: &three[..1],
         ..wide
     };
-    assert_eq!(rt;
-        verdict(alloc, &own, &own, &low)?,
-        Verdict::No(Reason::BoundNotShown)
-    );
+    let not_shown = Some(Reason::BoundNotShown);
+    gives(rt, alloc, own, own, &low, not_shown)?;
     let narrow = Sample {
         sheet: Sheet::Strip { width: 3 },
         side: 9,
         points: &[(0, 0), (0, 4), (0, 8), (3, 2), (3, 6)],
         ..low
     };
-    assert_eq!(rt; verdict(alloc, &own, &own, &narrow)?, Verdict::Yes);
-    Ok(())
+    gives(rt, alloc, own, own, &narrow, None)
 }
 
 #[test]
-fn two_corners(rt: HostRuntime) -> Result<(), Fail> {
+fn strips(rt: HostRuntime) -> Result<(), Fail> {
     let alloc = rt.alloc();
-    let own = tree(alloc, &[0, 0, 0, 1, 1], &[0, 1, 1, 1, 1])?;
+    let own = five(alloc)?;
+    let result = on_strips(&rt, alloc, &own);
+    drop(own);
+    result
+}
+
+fn on_corners(rt: &impl Abort, alloc: Global, own: &Tree) -> Result<(), Fail> {
     let sample = Sample {
         sheet: Sheet::Square,
         side: 4,
@@ -296,14 +413,24 @@ fn two_corners(rt: HostRuntime) -> Result<(), Fail> {
         leaves: &[1, 2],
         proof: &[],
     };
-    assert_eq!(rt; verdict(alloc, &own, &own, &sample)?, Verdict::Yes);
-    let metric = Metric::of(alloc, &own)?;
+    gives(rt, alloc, own, own, &sample, None)?;
+    let metric = Metric::of(alloc, own)?;
     law_of_checks(&metric);
+    drop(metric);
+    Ok(())
+}
+
+#[test]
+fn two_corners(rt: HostRuntime) -> Result<(), Fail> {
+    let alloc = rt.alloc();
+    let own = tree(alloc, &[0, 0, 0, 1, 1], &[0, 1, 1, 1, 1])?;
+    let result = on_corners(&rt, alloc, &own);
+    drop(own);
     checks_without_reason();
     law_of_checked_texts();
     one_reason();
     has_reason();
-    Ok(())
+    result
 }
 
 // How the nine proof lines end: with a walk, with a split that has a bad one below it, or with a child of the root too many.
@@ -318,33 +445,24 @@ fn walk(depth: u64) -> Row<'static> {
     leaf(depth, Word::Walk, Axis::X, &[1, 2])
 }
 
-fn last_rows(alloc: Global, ending: Ending) -> Result<Vec<Row<'static>>, Fail> {
-    let mut rows = Vec::new(alloc);
-    match ending {
-        Ending::Walk => rows.push(walk(2))?,
-        Ending::BadSplit => {
-            rows.push(split(2, &[2, 3]))?;
-            rows.push(split(3, &[2, 3]))?;
-            for _ in 0..3 {
-                rows.push(walk(3))?;
-            }
-        }
-        Ending::TooMany => {
-            rows.push(walk(2))?;
-            rows.push(split(2, &[4, 1]))?;
-            rows.push(walk(1))?;
-        }
-    }
-    Ok(rows)
+fn push_all(rows: &mut Vec<Row<'static>>, more: &[Row<'static>]) -> Result<(), Fail> {
+    rows.extend_from_slice(more)?;
+    Ok(())
 }
 
-// The nine proof lines of the star of three, with a wrong cycle as node 4, without one of them, or with another end.
-fn nine(
-    alloc: Global,
-    right: bool,
-    left_out: usize,
-    end: Ending,
-) -> Result<Vec<Row<'static>>, Fail> {
+fn push_last(rows: &mut Vec<Row<'static>>, ending: Ending) -> Result<(), Fail> {
+    match ending {
+        Ending::Walk => push_all(rows, &[walk(2)]),
+        Ending::BadSplit => {
+            let splits = [split(2, &[2, 3]), split(3, &[2, 3])];
+            push_all(rows, &splits)?;
+            push_all(rows, &[walk(3), walk(3), walk(3)])
+        }
+        Ending::TooMany => push_all(rows, &[walk(2), split(2, &[4, 1]), walk(1)]),
+    }
+}
+
+fn push_first(rows: &mut Vec<Row<'static>>, right: bool, left_out: usize) -> Result<(), Fail> {
     let cycle: &'static [u64] = if right { &[1, 2, 3] } else { &[1, 3, 2] };
     let lines = [
         split(0, &[1, 2]),
@@ -356,18 +474,35 @@ fn nine(
         walk(3),
         walk(3),
     ];
-    let mut rows = Vec::new(alloc);
     for k in 0..lines.len() {
         if left_out != k {
             rows.push(lines[k])?;
         }
     }
-    let last = last_rows(alloc, end)?;
-    rows.extend_from_slice(&last)?;
+    Ok(())
+}
+
+// The nine proof lines of the star of three, with a wrong cycle as node 4, without one of them, or with another end.
+fn nine(
+    alloc: Global,
+    right: bool,
+    left_out: usize,
+    end: Ending,
+) -> Result<Vec<Row<'static>>, Fail> {
+    let mut rows: Vec<Row<'static>> = Vec::new(alloc);
+    push_first(&mut rows, right, left_out)?;
+    push_last(&mut rows, end)?;
     Ok(rows)
 }
 
-fn nine_verdict(alloc: Global, own: &Tree, bound: u64, proof: &[Row]) -> Result<Verdict, Fail> {
+fn nine_gives(
+    rt: &impl Abort,
+    alloc: Global,
+    own: &Tree,
+    bound: u64,
+    proof: &[Row],
+    reason: Option<Reason>,
+) -> Result<(), Fail> {
     let sample = Sample {
         sheet: Sheet::Square,
         side: 2,
@@ -377,13 +512,10 @@ fn nine_verdict(alloc: Global, own: &Tree, bound: u64, proof: &[Row]) -> Result<
         leaves: &[1],
         proof,
     };
-    verdict(alloc, own, own, &sample)
+    gives(rt, alloc, own, own, &sample, reason)
 }
 
-#[test]
-fn nine_proof_lines(rt: HostRuntime) -> Result<(), Fail> {
-    let alloc = rt.alloc();
-    let own = tree(alloc, &[0; 4], &[0, 1, 1, 1])?;
+fn on_nine(rt: &impl Abort, alloc: Global, own: &Tree) -> Result<(), Fail> {
     let bad_split = |node| Some(Reason::BadSplit { node });
     let bad_chain = |node| Some(Reason::BadChain { node });
     let rows = [
@@ -396,13 +528,20 @@ fn nine_proof_lines(rt: HostRuntime) -> Result<(), Fail> {
     ];
     for (bound, right, left_out, end, reason) in rows {
         let proof = nine(alloc, right, left_out, end)?;
-        let wanted = match reason {
-            None => Verdict::Yes,
-            Some(reason) => Verdict::No(reason),
-        };
-        assert_eq!(rt; nine_verdict(alloc, &own, bound, &proof)?, wanted);
+        let result = nine_gives(rt, alloc, own, bound, &proof, reason);
+        drop(proof);
+        result?;
     }
     Ok(())
+}
+
+#[test]
+fn nine_proof_lines(rt: HostRuntime) -> Result<(), Fail> {
+    let alloc = rt.alloc();
+    let own = tree(alloc, &[0; 4], &[0, 1, 1, 1])?;
+    let result = on_nine(&rt, alloc, &own);
+    drop(own);
+    result
 }
 
 #[test]

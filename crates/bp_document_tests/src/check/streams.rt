@@ -1,7 +1,7 @@
 // Texts that are checked while they are read.
 ghost use Rattle.std.specs.Prelude.{◌≤◌};
 
-use super::tree;
+use super::{five, tree};
 use bp_base::{MemSource, Tree};
 use bp_check::{CheckFault, Reason, Streamed, Verdict, check_source};
 use bp_document::{DocFault, DocKind};
@@ -106,6 +106,20 @@ fn with_edits(alloc: Global, text: &[u8], edits: &[Edit]) -> Result<Vec<u8>, Fai
     Ok(bytes)
 }
 
+fn told_at<R: Abort>(
+    rt: &R,
+    alloc: Global,
+    tree: &Tree,
+    text: &[u8],
+    most: u64,
+    wanted: Outcome,
+) -> Result<(), Fail>
+    requires { 1 ≤ most }
+{
+    assert_eq!(rt; told(alloc, tree, text, most, 0)?, wanted);
+    Ok(())
+}
+
 // The text with its edits, 1, 7 and 4,096 bytes a call.
 fn told_alike<R: Abort>(
     rt: &R,
@@ -114,10 +128,9 @@ fn told_alike<R: Abort>(
     text: &[u8],
     wanted: Outcome,
 ) -> Result<(), Fail> {
-    assert_eq!(rt; told(alloc, tree, text, 1, 0)?, wanted);
-    assert_eq!(rt; told(alloc, tree, text, 7, 0)?, wanted);
-    assert_eq!(rt; told(alloc, tree, text, 4096, 0)?, wanted);
-    Ok(())
+    told_at(rt, alloc, tree, text, 1, wanted)?;
+    told_at(rt, alloc, tree, text, 7, wanted)?;
+    told_at(rt, alloc, tree, text, 4096, wanted)
 }
 
 fn check_all<R: Abort>(
@@ -184,8 +197,10 @@ fn star(rt: HostRuntime) -> Result<(), Fail> {
         ),
     ];
     let alloc = rt.alloc();
-    let own = tree(alloc, &[0; 6], &[0, 2, 2, 2, 1, 1])?;
-    check_all(&rt, alloc, &own, STAR, &rows)
+    let own = five(alloc)?;
+    let result = check_all(&rt, alloc, &own, STAR, &rows);
+    drop(own);
+    result
 }
 
 // The text cut before each of its lines.
@@ -203,15 +218,19 @@ fn cut<R: Abort>(rt: &R, alloc: Global, tree: &Tree, text: &[u8]) -> Result<(), 
 #[test]
 fn cut_texts(rt: HostRuntime) -> Result<(), Fail> {
     let alloc = rt.alloc();
-    let own = tree(alloc, &[0; 6], &[0, 2, 2, 2, 1, 1])?;
-    cut(&rt, alloc, &own, STAR)
+    let own = five(alloc)?;
+    let result = cut(&rt, alloc, &own, STAR);
+    drop(own);
+    result
 }
 
 #[test]
 fn corners(rt: HostRuntime) -> Result<(), Fail> {
     let alloc = rt.alloc();
     let own = tree(alloc, &[0, 0, 0, 1, 1], &[0, 1, 1, 1, 1])?;
-    told_alike(&rt, alloc, &own, CORNERS, yes(4, 3))
+    let result = told_alike(&rt, alloc, &own, CORNERS, yes(4, 3));
+    drop(own);
+    result
 }
 
 #[test]
@@ -239,7 +258,9 @@ fn nine(rt: HostRuntime) -> Result<(), Fail> {
     ];
     let alloc = rt.alloc();
     let own = tree(alloc, &[0; 4], &[0, 1, 1, 1])?;
-    check_all(&rt, alloc, &own, NINE, &rows)
+    let result = check_all(&rt, alloc, &own, NINE, &rows);
+    drop(own);
+    result
 }
 
 #[test]
@@ -254,19 +275,27 @@ fn sheets(rt: HostRuntime) -> Result<(), Fail> {
         (&[(2, b"sheet strip 01\n")], fault(2, DocKind::BadForm)),
     ];
     let alloc = rt.alloc();
-    let own = tree(alloc, &[0; 6], &[0, 2, 2, 2, 1, 1])?;
-    check_all(&rt, alloc, &own, STRIP, &rows)
+    let own = five(alloc)?;
+    let result = check_all(&rt, alloc, &own, STRIP, &rows);
+    drop(own);
+    result
+}
+
+fn fails_at<R: Abort>(rt: &R, alloc: Global, tree: &Tree) -> Result<(), Fail> {
+    for call in 1..40 {
+        let wanted = if call < 32 { Outcome::Read } else { yes(5, 4) };
+        assert_eq!(rt; told(alloc, tree, STAR, 7, call)?, wanted);
+    }
+    Ok(())
 }
 
 #[test]
 fn failing_reads(rt: HostRuntime) -> Result<(), Fail> {
     let alloc = rt.alloc();
-    let own = tree(alloc, &[0; 6], &[0, 2, 2, 2, 1, 1])?;
-    for call in 1..40 {
-        let wanted = if call < 32 { Outcome::Read } else { yes(5, 4) };
-        assert_eq!(&rt; told(alloc, &own, STAR, 7, call)?, wanted);
-    }
-    Ok(())
+    let own = five(alloc)?;
+    let result = fails_at(&rt, alloc, &own);
+    drop(own);
+    result
 }
 
 // A line of so many bytes, without its LF.
@@ -289,14 +318,31 @@ fn check_line<R: Abort>(
     told_alike(rt, alloc, tree, &text, wanted)
 }
 
+fn long_ended(alloc: Global, count: usize) -> Result<Vec<u8>, Fail> {
+    let mut line = long(alloc, count)?;
+    line.push(b'\n')?;
+    Ok(line)
+}
+
+fn long_ones<R: Abort>(
+    rt: &R,
+    alloc: Global,
+    tree: &Tree,
+    unended: &[u8],
+    ended: &[u8],
+) -> Result<(), Fail> {
+    check_line(rt, alloc, tree, (18, ended), fault(18, DocKind::BadForm))?;
+    check_line(rt, alloc, tree, (1, ended), fault(1, DocKind::BadForm))?;
+    check_line(rt, alloc, tree, (19, unended), fault(19, DocKind::Cut))
+}
+
 #[test]
 fn long_lines(rt: HostRuntime) -> Result<(), Fail> {
     let alloc = rt.alloc();
-    let own = tree(alloc, &[0; 6], &[0, 2, 2, 2, 1, 1])?;
     let unended = long(alloc, 600)?;
-    let mut ended = long(alloc, 600)?;
-    ended.push(b'\n')?;
-    check_line(&rt, alloc, &own, (18, &ended), fault(18, DocKind::BadForm))?;
-    check_line(&rt, alloc, &own, (1, &ended), fault(1, DocKind::BadForm))?;
-    check_line(&rt, alloc, &own, (19, &unended), fault(19, DocKind::Cut))
+    let ended = long_ended(alloc, 600)?;
+    let own = five(alloc)?;
+    let result = long_ones(&rt, alloc, &own, &unended, &ended);
+    drop(own);
+    result
 }
