@@ -6,6 +6,8 @@ mod certificate;
 #[cfg(test)]
 mod learn;
 #[cfg(test)]
+mod mirror;
+#[cfg(test)]
 mod replay;
 #[cfg(test)]
 mod solve;

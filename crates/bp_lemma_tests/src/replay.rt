@@ -10,7 +10,7 @@ use std::alloc::Global;
 use std::process::Abort;
 use std::test::Fail;
 
-fn named(text: &[u8]) -> Result<Name, Fail>
+pub fn named(text: &[u8]) -> Result<Name, Fail>
     ensures { IfOk result (λ name. name ≡ text.now) }
 {
     match Name::new(text) {
@@ -44,7 +44,7 @@ fn star(alloc: Global) -> Result<Tree, Fail> {
     Ok(Tree::of(parents, lengths, names))
 }
 
-fn before(axis: Axis, first: u64, second: u64) -> Fact {
+pub fn before(axis: Axis, first: u64, second: u64) -> Fact {
     Fact::Before {
         axis,
         first,
@@ -52,7 +52,7 @@ fn before(axis: Axis, first: u64, second: u64) -> Fact {
     }
 }
 
-fn not_before(axis: Axis, first: u64, second: u64) -> Fact {
+pub fn not_before(axis: Axis, first: u64, second: u64) -> Fact {
     Fact::NotBefore {
         axis,
         first,
@@ -60,21 +60,21 @@ fn not_before(axis: Axis, first: u64, second: u64) -> Fact {
     }
 }
 
-fn least(axis: Axis, leaf: u64, code: u64) -> Fact {
+pub fn least(axis: Axis, leaf: u64, code: u64) -> Fact {
     Fact::Least { axis, leaf, code }
 }
 
-fn below(axis: Axis, leaf: u64, code: u64) -> Fact {
+pub fn below(axis: Axis, leaf: u64, code: u64) -> Fact {
     Fact::Below { axis, leaf, code }
 }
 
-fn pair(i: u64, j: u64) -> Hint {
+pub fn pair(i: u64, j: u64) -> Hint {
     Hint::Pair {
         pair: Pair { i, j },
     }
 }
 
-fn lemma(number: u64) -> Hint {
+pub fn lemma(number: u64) -> Hint {
     Hint::Lemma { number }
 }
 
@@ -126,7 +126,7 @@ fn opened_on(
     }
 }
 
-fn fed(replay: &mut Replay, facts: &[Fact], hints: &[Hint]) -> Result<bool, Fail> {
+pub fn fed(replay: &mut Replay, facts: &[Fact], hints: &[Hint]) -> Result<bool, Fail> {
     if !are_small(facts) {
         return Err(Fail::from("a code"));
     }

@@ -1,16 +1,18 @@
 -- A hint takes a knowledge that tells only what is so to one that does too, and never to a broken one.
-use Rattle.std.proofs.Common.{◌≡◌, ℕ, ◌*◌, ◌<◌, zero, suc, ◌-◌, ◌≤◌, Bool, true, false, if◌then◌else◌, IsTrue, List, [], ◌∷◌, length, get_or, All, refl, arith, inl, inr}
+use Rattle.std.proofs.Common.{◌≡◌, ℕ, ◌*◌, ◌<◌, zero, suc, ◌-◌, ◌≤◌, Bool, true, false, if◌then◌else◌, IsTrue, ◌||◌, List, [], ◌∷◌, length, get_or, All, refl, subst, arith, inl, inr}
+use Rattle.std.specs.List.{list_any}
+use Rattle.std.proofs.lemmas.Bool.{or_cases, false≢true}
 use Rattle.bp_base.specs.declared.point.Axis.TheVariants.{X, Y}
 use Rattle.bp_arrangement.specs.declared.fact.Fact.{Fact}
 use Rattle.bp_arrangement.specs.declared.fact.Hint.{Hint}
 use Rattle.bp_arrangement.specs.declared.fact.Hint.TheVariants.{Pair, Lemma}
 use Rattle.bp_arrangement.specs.Facts.{denial}
 use Rattle.bp_arrangement.proofs.Marks.{mark_le}
-use Rattle.bp_lemmas.specs.Systems.{Order, Lasting, System, Meets}
-use Rattle.bp_lemmas.specs.Knowledge.{Knowledge, raised, pushed, unsure, IsBroken, crossed, both, circular}
-use Rattle.bp_lemmas.specs.Hints.{Outcome, broken, now, bad, by_last, push_known, leant, leant_by, no_order, knows_order, pair_pushed, after, Then, Closes}
+use Rattle.bp_lemmas.specs.Systems.{Order, is_order, IsMet, OneIsMet, Lasting, System, group, Meets}
+use Rattle.bp_lemmas.specs.Knowledge.{Knowledge, raised, with_order, pushed, is_refuted, unsure, IsBroken, crossed, both, circular}
+use Rattle.bp_lemmas.specs.Hints.{Outcome, broken, now, bad, by_last, push_known, leant, leant_by, knows_order, pair_pushed, open_orders, with_last, after, Then, Closes}
 use Rattle.bp_lemmas.specs.Standing.{IsHint}
-use Rattle.bp_lemmas.proofs.Told.{AllHold, Told, told_raised, told_lowered, told_pushed, told_fact, denial_holds, unsure_all}
+use Rattle.bp_lemmas.proofs.Told.{same_order, AllHold, Told, told_raised, told_lowered, told_with, told_pushed, told_fact, not_so, denial_holds, unsure_all}
 
 module _ (S : System) (q s : ℕ) (c : ℕ → ℕ) (finer : 1 ≤ q) (low : s < q * S.bound) (m : Meets S q s c) where
   not_broken : (K : Knowledge) → Told S q s c K → IsBroken S K → ⊥
@@ -61,15 +63,36 @@ module _ (S : System) (q s : ℕ) (c : ℕ → ℕ) (finer : 1 ≤ q) (low : s <
       let four = push_known S three (S.order Y j i) in
       told_leant_by (S.lasting i j) four (told_push_known three (S.order Y j i) (told_push_known two (S.order Y i j) (told_push_known one (S.order X j i) (told_push_known K (S.order X i j) told)))) (m.lasting i j)
 
-  -- one order of a pair holds
-  some_order : (i j : ℕ) → IsTrue (S.has_pair i j) → Refuted (no_order i j)
-  some_order i j pair hold = elim (m.one i j pair) [
-    | inl met ↦ hold.0 met
-    | inr (inl met) ↦ hold.1.0 met
-    | inr (inr (inl met)) ↦ hold.1.1.0 met
-    | inr (inr (inr (inl met))) ↦ hold.1.1.1.0 met
-    | inr (inr (inr (inr none))) ↦ none
+  -- of orders of which one holds one is left that does
+  among_orders : (o : Order) (orders : List Order) → IsTrue (list_any (is_order o) orders) → IsMet q s c o → OneIsMet q s c orders
+  among_orders o [] is met = absurd (false≢true is)
+  among_orders o (p ∷ orders) is met = elim (or_cases (is_order o p) (list_any (is_order o) orders) is) [
+    | inl same ↦ inl (subst (IsMet q s c) (same_order o p same) met)
+    | inr later ↦ inr (among_orders o orders later met)
   ]
+
+  left_or_out : (b : Bool) (o : Order) (left orders : List Order) → (OneIsMet q s c orders → OneIsMet q s c left) → (IsTrue b → IsMet q s c o → OneIsMet q s c orders) → OneIsMet q s c (o ∷ orders) → OneIsMet q s c (if b then left else o ∷ left)
+  left_or_out true o left orders rest out (inl met) = rest (out refl met)
+  left_or_out true o left orders rest out (inr later) = rest later
+  left_or_out false o left orders rest out (inl met) = inl met
+  left_or_out false o left orders rest out (inr later) = inr (rest later)
+
+  one_left : (K : Knowledge) → Told S q s c K → (orders : List Order) → OneIsMet q s c orders → OneIsMet q s c (open_orders S K orders)
+  one_left K told [] one = one
+  one_left K told (o ∷ orders) one =
+      left_or_out (list_any (is_order o) orders || (K.fails o || is_refuted S K o)) o (open_orders S K orders) orders (one_left K told orders) out one
+    where
+      out : IsTrue (list_any (is_order o) orders || (K.fails o || is_refuted S K o)) → IsMet q s c o → OneIsMet q s c orders
+      out is met = elim (or_cases (list_any (is_order o) orders) (K.fails o || is_refuted S K o) is) [
+        | inl later ↦ among_orders o orders later met
+        | inr sure ↦ absurd (not_so S q s c K o finer low told sure met)
+      ]
+
+  with_last_sound : (K : Knowledge) (left : List Order) → Told S q s c K → OneIsMet q s c left → IsSound (with_last S K left)
+  with_last_sound K [] told one = one
+  with_last_sound K (o ∷ []) told (inl met) = told_pushed S q s c (with_order K o) o finer low (told_with S q s c K o told met) met
+  with_last_sound K (o ∷ []) told (inr none) = absurd none
+  with_last_sound K (o ∷ p ∷ more) told one = told
 
   sound_either : (b : Bool) (o r : Outcome) → IsSound o → IsSound r → IsSound (if b then o else r)
   sound_either true o r one other = one
@@ -82,8 +105,8 @@ module _ (S : System) (q s : ℕ) (c : ℕ → ℕ) (finer : 1 ≤ q) (low : s <
       let j = pair.j in
       let M = pair_pushed S K i j in
       let told_m : Told S q s c M = told_pair_pushed K i j told in
-      sound_either (knows_order S M i j) (now M) (by_last S M (now M) (unsure S M (no_order i j))) told_m
-      (by_last_sound M (now M) (unsure S M (no_order i j)) told_m (λ hold. some_order i j named (unsure_all S q s c M (no_order i j) finer low told_m hold)) told_m)
+      let left = open_orders S M (group S i j) in
+      sound_either (knows_order S M i j) (now M) (with_last S M left) told_m (with_last_sound M left told_m (one_left M told_m (group S i j) (m.one i j named)))
   after_sound earlier K (Lemma number) refuted named told =
       let facts = get_or earlier (number - 1) [] in
       by_last_sound K bad (unsure S K facts) told (λ hold. refuted (number - 1) [] (omega (arith, named.0, named.1)) (unsure_all S q s c K facts finer low told hold)) tt

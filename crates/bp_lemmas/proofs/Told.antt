@@ -1,5 +1,5 @@
 -- A knowledge that tells only what is so of some coordinates: with a fact more that holds it still does, and each fact that is sure holds.
-use Rattle.std.proofs.Common.{◌≡◌, ℕ, ◌+◌, ◌-◌, ◌*◌, ◌/◌, ◌<◌, ◌≤◌, ◌==◌, ◌&&◌, max, min, Bool, true, false, if◌then◌else◌, IsTrue, List, [], ◌∷◌, refl, sym, ◌∙◌, ap, subst, arith, inl, inr}
+use Rattle.std.proofs.Common.{◌≡◌, ℕ, ◌+◌, ◌-◌, ◌*◌, ◌/◌, ◌<◌, ◌≤◌, ◌==◌, ◌&&◌, ◌||◌, max, min, Bool, true, false, if◌then◌else◌, IsTrue, List, [], ◌∷◌, refl, sym, ◌∙◌, ap, subst, arith, inl, inr}
 use Rattle.std.proofs.Math.Nat.{mul-add, mul-le-mul_left}
 use Rattle.std.proofs.lemmas.Bool.{and_parts, or_cases, cases_lt, eqb-true, leb-true, false≢true}
 use Rattle.bp_arrangement.specs.declared.fact.Fact.{Fact}
@@ -192,14 +192,18 @@ module _ (S : System) (q s : ℕ) (c : ℕ → ℕ) where
   refuted_missed K (facing_itself u w) finer low told sure met = no_room (c u) (c u) (K.lower u / 2) (K.lower u / 2) w (whole_low K u told) (whole_low K u told) met low (leb-true S.bound (K.lower u / 2 + K.lower u / 2 + w) sure)
   refuted_missed K never finer low told sure met = met
 
+  -- an order that is known not to hold or that the bounds refute isn't so
+  pub not_so : (K : Knowledge) (o : Order) → 1 ≤ q → s < q * S.bound → Told K → IsTrue (K.fails o || is_refuted S K o) → IsMet q s c o → ⊥
+  not_so K o finer low told sure met = elim (or_cases (K.fails o) (is_refuted S K o) sure) [
+    | inl known ↦ told.failed o known met
+    | inr bounds ↦ refuted_missed K o finer low told bounds met
+  ]
+
   -- what is sure holds
   pub sure_holds : (K : Knowledge) (f : Fact) → 1 ≤ q → s < q * S.bound → Told K → IsTrue (is_sure S K f) → Holds f
   unfolding is_sure
   sure_holds K (Before axis i j) finer low told sure = told.held (S.order axis i j) sure
-  sure_holds K (NotBefore axis i j) finer low told sure = elim (or_cases (K.fails (S.order axis i j)) (is_refuted S K (S.order axis i j)) sure) [
-    | inl known ↦ told.failed (S.order axis i j) known
-    | inr bounds ↦ refuted_missed K (S.order axis i j) finer low told bounds
-  ]
+  sure_holds K (NotBefore axis i j) finer low told sure = not_so K (S.order axis i j) finer low told sure
   sure_holds K (Least axis i code) finer low told sure = omega (arith, mark_le q code (K.lower (S.coordinate axis i)) finer (leb-true code (K.lower (S.coordinate axis i)) sure), told.lows (S.coordinate axis i))
   sure_holds K (Below axis i code) finer low told sure = omega (arith, mark_le q (K.upper (S.coordinate axis i)) code finer (leb-true (K.upper (S.coordinate axis i)) code sure), told.highs (S.coordinate axis i))
 

@@ -1,13 +1,13 @@
 -- What a hint makes of a knowledge, and when a list of hints closes it.
 use Rattle.std.specs.Prelude.{◌⊎◌, ℕ, ◌-◌, ◌||◌, List, [], ◌∷◌, Bool, if◌then◌else◌, slice_index_or}
+use Rattle.std.specs.List.{list_any}
 use Rattle.bp_base.specs.declared.point.Axis.TheVariants.{X, Y}
 use Rattle.bp_arrangement.specs.declared.fact.Fact.{Fact}
-use Rattle.bp_arrangement.specs.declared.fact.Fact.TheVariants.{NotBefore}
 use Rattle.bp_arrangement.specs.declared.fact.Hint.{Hint}
 use Rattle.bp_arrangement.specs.declared.fact.Hint.TheVariants.{Pair, Lemma}
 use Rattle.bp_arrangement.specs.Facts.{denial}
-use Rattle.bp_lemmas.specs.Systems.{Order, Lasting, System}
-use Rattle.bp_lemmas.specs.Knowledge.{Knowledge, raised, lowered, pushed, with_fact, unsure, IsBroken}
+use Rattle.bp_lemmas.specs.Systems.{Order, is_order, Lasting, System, group}
+use Rattle.bp_lemmas.specs.Knowledge.{Knowledge, raised, lowered, with_order, pushed, is_refuted, with_fact, unsure, IsBroken}
 
 -- a hint breaks the knowledge, makes another of it, or doesn't serve
 pub data Outcome : Type 0 where
@@ -34,10 +34,6 @@ abbrev pub leant_by : Knowledge → List Lasting → Knowledge
 leant_by K [] = K
 leant_by K (l ∷ more) = leant_by (leant K l) more
 
--- no two leaves of a pair lie so that none of these orders holds
-abbrev pub no_order : ℕ → ℕ → List Fact
-no_order i j = NotBefore X i j ∷ NotBefore X j i ∷ NotBefore Y i j ∷ NotBefore Y j i ∷ []
-
 unfoldable pub knows_order : System → Knowledge → ℕ → ℕ → Bool
 knows_order S K i j = K.holds (S.order X i j) || K.holds (S.order X j i) || K.holds (S.order Y i j) || K.holds (S.order Y j i)
 
@@ -46,9 +42,20 @@ unfoldable pub pair_pushed : System → Knowledge → ℕ → ℕ → Knowledge
 pair_pushed S K i j =
     leant_by (push_known S (push_known S (push_known S (push_known S K (S.order X i j)) (S.order X j i)) (S.order Y i j)) (S.order Y j i)) (S.lasting i j)
 
--- where no order is known, the one that is left is taken
+-- The orders of a list that may hold: neither known not to nor refuted by the bounds. One that is there twice is left once.
+abbrev pub open_orders : System → Knowledge → List Order → List Order
+open_orders S K [] = []
+open_orders S K (o ∷ orders) = if list_any (is_order o) orders || (K.fails o || is_refuted S K o) then open_orders S K orders else o ∷ open_orders S K orders
+
+-- One of the orders holds: with none left nothing meets the knowledge, and one alone is taken.
+abbrev pub with_last : System → Knowledge → List Order → Outcome
+with_last S K [] = broken
+with_last S K (o ∷ []) = now (pushed S (with_order K o) o)
+with_last S K (o ∷ p ∷ more) = now K
+
+-- where no order of the pair is known, the one that is left is taken
 abbrev pub pair_settled : System → Knowledge → ℕ → ℕ → Outcome
-pair_settled S K i j = if knows_order S K i j then now K else by_last S K (now K) (unsure S K (no_order i j))
+pair_settled S K i j = if knows_order S K i j then now K else with_last S K (open_orders S K (group S i j))
 
 unfoldable pub after : System → List (List Fact) → Knowledge → Hint → Outcome
 after S earlier K (Pair pair) = pair_settled S (pair_pushed S K pair.i pair.j) pair.i pair.j

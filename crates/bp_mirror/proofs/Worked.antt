@@ -17,9 +17,9 @@ use Rattle.bp_arrangement.specs.declared.fact.Fact.TheVariants.{NotBefore}
 use Rattle.bp_arrangement.specs.declared.fact.Hint.{Hint}
 use Rattle.bp_arrangement.specs.declared.fact.Hint.TheVariants.{Pair as Both}
 use Rattle.bp_arrangement.specs.Swaps.{sent}
-use Rattle.bp_lemmas.specs.Systems.{Order, apart, facing, facing_itself, never, Lasting, System}
-use Rattle.bp_lemmas.specs.Knowledge.{raised, lowered, with_order, without_order, pushed, is_refuted, with_fact, with_facts, is_sure}
-use Rattle.bp_lemmas.specs.Hints.{push_known, leant, knows_order, pair_pushed, now, after, Closes}
+use Rattle.bp_lemmas.specs.Systems.{Order, apart, facing, facing_itself, never, Lasting, System, group}
+use Rattle.bp_lemmas.specs.Knowledge.{Knowledge, raised, lowered, with_order, without_order, pushed, is_refuted, with_fact}
+use Rattle.bp_lemmas.specs.Hints.{push_known, leant, knows_order, pair_pushed, open_orders, now, after, Closes}
 use Rattle.bp_lemmas.specs.Standing.{Lemma, IsNamed, IsHint, EachStands, root_after}
 use Rattle.bp_lemmas.specs.Trees.{number, leaf_of}
 use Rattle.bp_mirror.specs.declared.kind.MirrorKind.TheVariants.{Book, Diagonal}
@@ -278,7 +278,7 @@ book_hint zero d within = refl
 book_hint (suc k) d within = absurd (omega (arith, within))
 
 book_closes : Closes (mirror_system star Book two_pairs 4 []) [] (first_pair ∷ []) (root_after (mirror_system star Book two_pairs 4 []) [])
-unfolding mirror_system mirror_order reading variable_before variables_face after pair_pushed push_known knows_order pushed leant raised lowered with_order with_fact is_sure is_refuted number leaf_of dist share is_below
+unfolding mirror_system mirror_order reading variable_before variables_face after pair_pushed push_known knows_order pushed leant raised lowered with_order is_refuted number leaf_of dist share is_below
 book_closes = inr tt
 
 book_proved : ProvesMirrored star Book two_pairs 4 [] (book_lemma ∷ [])
@@ -312,53 +312,55 @@ beside_mirrored = record {
   axis = λ k leaf on. absurd (none_on_axis k leaf.0 leaf.1 on);
 }
 
--- A pair has one order, by two names, so that a pair's hint never has one fact left of four: it is taken up by a lemma of its own.
-abbrev order_of_pair : ℕ → ℕ → Lemma
-order_of_pair i j = record { facts = NotBefore X i j ∷ []; hints = Both (record { i = i; j = j }) ∷ [] }
-
-abbrev between_pairs : Lemma
-between_pairs = record { facts = []; hints = Both (record { i = 1; j = 3 }) ∷ [] }
-
 abbrev diagonal : System
 diagonal = mirror_system star Diagonal two_pairs 4 []
 
-diagonal_stand : EachStands diagonal [] (order_of_pair 1 2 ∷ order_of_pair 3 4 ∷ between_pairs ∷ [])
-unfolding mirror_system mirror_order reading variable_before after pair_pushed push_known knows_order pushed leant raised lowered with_order without_order with_fact is_sure is_refuted number leaf_of dist share is_below
+abbrev known_first : System → Knowledge
+known_first S = root_after S []
+
+-- The two leaves of a pair have one order, by two names: a pair's hint counts it once, and takes it.
+taken_of_pair : after diagonal [] (known_first diagonal) first_pair ≡ now (pushed diagonal (with_order (leant (known_first diagonal) (lies_no_farther 2 3)) (apart 2 3 2)) (apart 2 3 2))
+unfolding mirror_system mirror_order reading variable_before after pair_pushed push_known knows_order pushed leant raised lowered with_order is_refuted number leaf_of dist share is_below
+taken_of_pair = refl
+
+-- Leaves on the line have two orders, each by two names. Where one is known not to hold the hint takes the other.
+abbrev lined : System
+lined = mirror_system star Diagonal one_pair 4 []
+
+abbrev not_before : Knowledge
+not_before = with_fact lined (known_first lined) (NotBefore X 3 4)
+
+open_on_line : open_orders lined (known_first lined) (group lined 3 4) ∷ open_orders lined not_before (group lined 3 4) ∷ [] ≡ (apart 6 8 2 ∷ apart 8 6 2 ∷ []) ∷ (apart 8 6 2 ∷ []) ∷ []
+unfolding mirror_system mirror_order reading variable_before with_fact without_order is_refuted number leaf_of dist share is_below
+open_on_line = refl
+
+idle_on_line : after lined [] (known_first lined) (Both (record { i = 3; j = 4 })) ≡ now (known_first lined)
+unfolding mirror_system mirror_order reading variable_before after pair_pushed push_known knows_order is_refuted number leaf_of dist share is_below
+idle_on_line = refl
+
+taken_on_line : after lined [] not_before (Both (record { i = 3; j = 4 })) ≡ now (pushed lined (with_order not_before (apart 8 6 2)) (apart 8 6 2))
+unfolding mirror_system mirror_order reading variable_before after pair_pushed push_known knows_order with_fact without_order is_refuted number leaf_of dist share is_below
+taken_on_line = refl
+
+-- each pair's order leaves its leaves' x half of the side, and so no room between the pairs
+abbrev diagonal_lemma : Lemma
+diagonal_lemma = record { facts = []; hints = first_pair ∷ Both (record { i = 3; j = 4 }) ∷ Both (record { i = 1; j = 3 }) ∷ [] }
+
+diagonal_stand : EachStands diagonal [] (diagonal_lemma ∷ [])
+unfolding mirror_system mirror_order reading variable_before after pair_pushed push_known knows_order pushed leant raised lowered with_order is_refuted number leaf_of dist share is_below
 diagonal_stand = (
   record {
-    facts = All-cons (IsNamed diagonal) (NotBefore X 1 2) [] refl (All-nil (IsNamed diagonal));
-    hints = All-cons (IsHint diagonal 0) first_pair [] refl (All-nil (IsHint diagonal 0));
-    closed = inr tt;
+    facts = All-nil (IsNamed diagonal);
+    hints = All-cons (IsHint diagonal 0) first_pair (Both (record { i = 3; j = 4 }) ∷ Both (record { i = 1; j = 3 }) ∷ []) refl
+        (All-cons (IsHint diagonal 0) (Both (record { i = 3; j = 4 })) (Both (record { i = 1; j = 3 }) ∷ []) refl
+        (All-cons (IsHint diagonal 0) (Both (record { i = 1; j = 3 })) [] refl (All-nil (IsHint diagonal 0))));
+    closed = inr (inr (inr tt));
   },
-  (
-    record {
-      facts = All-cons (IsNamed diagonal) (NotBefore X 3 4) [] refl (All-nil (IsNamed diagonal));
-      hints = All-cons (IsHint diagonal 1) (Both (record { i = 3; j = 4 })) [] refl (All-nil (IsHint diagonal 1));
-      closed = inr tt;
-    },
-    (
-      record {
-        facts = All-nil (IsNamed diagonal);
-        hints = All-cons (IsHint diagonal 2) (Both (record { i = 1; j = 3 })) [] refl (All-nil (IsHint diagonal 2));
-        closed = inr tt;
-      },
-      tt,
-    ),
-  ),
+  tt,
 )
 
--- leaves on the line have each order by two names too: one lemma says that one of the two orders holds
-one_of_two : Closes (mirror_system star Diagonal one_pair 4 []) [] (Both (record { i = 3; j = 4 }) ∷ []) (with_facts (mirror_system star Diagonal one_pair 4 []) (root_after (mirror_system star Diagonal one_pair 4 []) []) (NotBefore X 3 4 ∷ NotBefore X 4 3 ∷ []))
-unfolding mirror_system mirror_order reading variable_before after pair_pushed push_known knows_order pushed leant raised lowered with_order without_order with_fact is_sure is_refuted number leaf_of dist share is_below
-one_of_two = inr tt
-
--- a hint alone takes up nothing of the pair
-pair_hint_idle : after diagonal [] (root_after diagonal []) first_pair ≡ now (leant (root_after diagonal []) (lies_no_farther 2 3))
-unfolding mirror_system mirror_order reading variable_before after pair_pushed push_known knows_order pushed leant raised lowered with_order without_order with_fact is_sure is_refuted number leaf_of dist share is_below
-pair_hint_idle = refl
-
 diagonal_least : NoneBelowMirrored star Diagonal two_pairs 4
-diagonal_least = mirrored_law star (sample_tree (0 ∷ 0 ∷ 0 ∷ 0 ∷ 0 ∷ []) (0 ∷ 1 ∷ 1 ∷ 1 ∷ 1 ∷ []) refl) Diagonal two_pairs 4 [] (order_of_pair 1 2 ∷ order_of_pair 3 4 ∷ between_pairs ∷ []) (record {
+diagonal_least = mirrored_law star (sample_tree (0 ∷ 0 ∷ 0 ∷ 0 ∷ 0 ∷ []) (0 ∷ 1 ∷ 1 ∷ 1 ∷ 1 ∷ []) refl) Diagonal two_pairs 4 [] (diagonal_lemma ∷ []) (record {
   is_mirror = two_pairs_mirror;
   admissible = λ k d within. absurd (omega (arith, within));
   stand = diagonal_stand;

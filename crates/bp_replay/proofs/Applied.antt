@@ -1,19 +1,19 @@
 -- What the facts that aren't sure give, and facts and orders one after another.
-use Rattle.std.proofs.Common.{◌≡◌, ℕ, ◌+◌, ◌<◌, Bool, true, false, if◌then◌else◌, IsTrue, List, [], ◌∷◌, ◌++◌, length, take, get_or, refl, sym, ◌∙◌, ap, subst}
+use Rattle.std.proofs.Common.{◌≡◌, ℕ, ◌+◌, ◌<◌, Bool, true, false, if◌then◌else◌, List, [], ◌∷◌, ◌++◌, length, take, get_or, flat_map, refl, sym, ◌∙◌, ap, subst}
+use Rattle.std.proofs.lemmas.Grind.{flat_map-append}
 use Rattle.std.proofs.lemmas.List.{append-nil, take_more, map-append}
-use Rattle.bp_metric.specs.Valid.{IsPair}
+use Rattle.bp_base.specs.declared.point.Axis.{Axis}
 use Rattle.bp_arrangement.specs.declared.fact.Fact.{Fact}
 use Rattle.bp_arrangement.specs.Facts.{denial}
-use Rattle.bp_lemmas.specs.Systems.{Lasting, System}
-use Rattle.bp_lemmas.specs.Knowledge.{Knowledge, with_fact, with_facts, is_sure, unsure}
-use Rattle.bp_lemmas.specs.Hints.{Outcome, broken, now, bad, by_last, leant, leant_by}
-use Rattle.bp_lemmas.specs.Trees.{tree_system}
-use Rattle.bp_lemmas.proofs.Trees.{pair_pair}
+use Rattle.bp_lemmas.specs.Systems.{Order, Lasting, System}
+use Rattle.bp_lemmas.specs.Knowledge.{Knowledge, with_order, pushed, with_fact, with_facts, is_sure, unsure}
+use Rattle.bp_lemmas.specs.Hints.{Outcome, broken, now, bad, by_last, leant, leant_by, with_last}
 use Rattle.bp_replay.specs.declared.known.Known.{Known}
 use Rattle.bp_replay.specs.declared.packed.Packed.{Packed}
+use Rattle.bp_replay.specs.declared.unsure.Open.TheVariants.{None, One, Several}
 use Rattle.bp_replay.specs.declared.unsure.Unsure.TheVariants.{Nothing, Single, More}
 use Rattle.bp_replay.specs.Tasks.{Task, system_of}
-use Rattle.bp_replay.specs.Kept.{IsLeft, Comes, Keeps}
+use Rattle.bp_replay.specs.Kept.{IsLeft, AreOpen, Comes, Keeps}
 use Rattle.bp_replay.specs.Stored.{fact_of, facts_in}
 use Rattle.bp_replay.proofs.Breaks.{Ends}
 use Rattle.bp_replay.proofs.Shown.{keeps_broken}
@@ -33,19 +33,37 @@ module _ (t : Task) (K : Knowledge) (S : Known) (otherwise : Outcome) where
   comes_more b (f ∷ []) is comes = absurd is
   comes_more b (f ∷ g ∷ left) is comes = comes
 
+-- the same of the orders of a pair
+module _ (t : Task) (K : Knowledge) (S : Known) where
+  pub open_none : (left : List Order) → AreOpen (system_of t) None left → S.broken ≡ true → Comes true t S (with_last (system_of t) K left)
+  open_none [] is flag = flag
+  open_none (o ∷ left) is flag = absurd is
+
+  pub open_one : (axis : Axis) (i j : ℕ) (left : List Order) → AreOpen (system_of t) (One axis i j) left → Keeps t S (pushed (system_of t) (with_order K ((system_of t).order axis i j)) ((system_of t).order axis i j)) → Comes true t S (with_last (system_of t) K left)
+  open_one axis i j [] is keeps = absurd is
+  open_one axis i j (o ∷ []) is keeps = subst (λ (p : Order). Keeps t S (pushed (system_of t) (with_order K p) p)) is keeps
+  open_one axis i j (o ∷ p ∷ left) is keeps = absurd is
+
+  pub open_several : (left : List Order) → AreOpen (system_of t) Several left → Keeps t S K → Comes true t S (with_last (system_of t) K left)
+  open_several [] is keeps = absurd is
+  open_several (o ∷ []) is keeps = absurd is
+  open_several (o ∷ p ∷ left) is keeps = keeps
+
 -- what a broken knowledge ends in is kept by the flag
 pub comes_ended : (t : Task) (S : Known) (o : Outcome) → S.broken ≡ true → Ends (system_of t) o → Comes true t S o
 comes_ended t S broken flag is = flag
 comes_ended t S (now M) flag is = keeps_broken t S M flag is
 comes_ended t S bad flag is = is
 
+-- with the orders of one element more
+pub flat_more : {X : Type 0} (f : X → List Lasting) (xs : List X) (k : ℕ) (d : X) → k < length xs → flat_map f (take (k + 1) xs) ≡ flat_map f (take k xs) ++ f (get_or xs k d)
+flat_more f xs k d within =
+    ap (flat_map f) (take_more xs k d within) ∙ flat_map-append f (take k xs) (get_or xs k d ∷ [])
+    ∙ ap (λ (l : List Lasting). flat_map f (take k xs) ++ l) (append-nil (f (get_or xs k d)))
+
 pub leant_append : (K : Knowledge) (xs ys : List Lasting) → leant_by K (xs ++ ys) ≡ leant_by (leant_by K xs) ys
 leant_append K [] ys = refl
 leant_append K (l ∷ xs) ys = leant_append (leant K l) xs ys
-
-pub named_pair : (t : Task) (i j : ℕ) → IsTrue ((system_of t).has_pair i j) → IsPair t.tree i j
-unfolding tree_system
-named_pair t i j named = pair_pair t.tree i j named
 
 either_append : (b : Bool) (f : Fact) (xs ys : List Fact) → (if b then xs ++ ys else f ∷ (xs ++ ys)) ≡ (if b then xs else f ∷ xs) ++ ys
 either_append true f xs ys = refl

@@ -6,11 +6,10 @@ use Rattle.bp_base.specs.declared.point.Axis.{Axis}
 use Rattle.bp_arrangement.specs.declared.fact.Fact.{Fact}
 use Rattle.bp_arrangement.specs.declared.fact.Fact.TheVariants.{Before, NotBefore, Least, Below}
 use Rattle.bp_arrangement.specs.declared.fact.Hint.{Hint}
-use Rattle.bp_arrangement.specs.Facts.{denial}
-use Rattle.bp_lemmas.specs.Systems.{Order, apart, facing, facing_itself, never, is_order, Lasting, System}
-use Rattle.bp_lemmas.specs.Knowledge.{Knowledge, raised, lowered, with_order, without_order, facing_upper, facing_itself_upper, pushed, with_fact, with_facts, unsure, IsBroken, crossed, both, circular}
+use Rattle.bp_lemmas.specs.Systems.{Order, apart, facing, facing_itself, never, is_order, Lasting, System, group}
+use Rattle.bp_lemmas.specs.Knowledge.{Knowledge, raised, lowered, with_order, without_order, facing_upper, facing_itself_upper, pushed, with_fact, with_facts, IsBroken, crossed, both, circular}
 use Rattle.bp_lemmas.proofs.Told.{same_order}
-use Rattle.bp_lemmas.specs.Hints.{Outcome, broken, now, bad, by_last, push_known, leant, no_order, knows_order, pair_settled, Closes}
+use Rattle.bp_lemmas.specs.Hints.{Outcome, broken, now, bad, push_known, leant, knows_order, open_orders, with_last, pair_settled, Closes}
 
 max_grows : (x code : ℕ) (b : Bool) → x ≤ (if b then max x code else x)
 max_grows x code true = omega arith
@@ -171,10 +170,10 @@ module _ (S : System) where
   ends_either true o r one other = one
   ends_either false o r one other = other
 
-  by_last_ends : (K : Knowledge) (left : List Fact) → IsBroken S K → Ends (by_last S K (now K) left)
-  by_last_ends K [] is = tt
-  by_last_ends K (f ∷ []) is = fact_stays K (denial f) is
-  by_last_ends K (f ∷ g ∷ more) is = is
+  with_last_ends : (K : Knowledge) (left : List Order) → IsBroken S K → Ends (with_last S K left)
+  with_last_ends K [] is = tt
+  with_last_ends K (o ∷ []) is = pushed_stays (with_order K o) o (with_order_stays K o is)
+  with_last_ends K (o ∷ p ∷ more) is = is
 
   pub pair_ends : (K : Knowledge) (i j : ℕ) → IsBroken S K → Ends (pair_settled S K i j)
-  pair_ends K i j is = ends_either (knows_order S K i j) (now K) (by_last S K (now K) (unsure S K (no_order i j))) is (by_last_ends K (unsure S K (no_order i j)) is)
+  pair_ends K i j is = ends_either (knows_order S K i j) (now K) (with_last S K (open_orders S K (group S i j))) is (with_last_ends K (open_orders S K (group S i j)) is)

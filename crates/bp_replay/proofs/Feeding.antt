@@ -1,11 +1,12 @@
 -- A replay with a lemma more, and what one proves whose last lemma has no facts.
-use Rattle.std.proofs.Common.{◌≡◌, ◌≢◌, ℕ, zero, suc, ◌-◌, ◌<◌, ◌≤◌, ◌==◌, ◌++◌, Bool, IsTrue, List, [], ◌∷◌, length, get_or, All, refl, sym, ◌∙◌, ap, subst, arith}
+use Rattle.std.proofs.Common.{◌≡◌, ◌≢◌, ℕ, zero, suc, ◌-◌, ◌<◌, ◌≤◌, ◌==◌, ◌++◌, Bool, IsTrue, List, [], ◌∷◌, length, get_or, map, All, refl, sym, ◌∙◌, ap, subst, arith}
 use Rattle.std.proofs.lemmas.Bool.{eqb-true, eq-eqb}
 use Rattle.std.proofs.lemmas.List.{append-nil, append_assoc, map-append}
 use Rattle.std.proofs.lemmas.List.Elements.{All-append, All-cons}
 use Rattle.bp_base.specs.declared.path.Pair.{Pair}
-use Rattle.bp_base.specs.Tree.{leaf_count}
-use Rattle.bp_metric.specs.Valid.{NoneBelow}
+use Rattle.bp_base.specs.declared.point.Sheet.{Sheet}
+use Rattle.bp_base.specs.Tree.{TreeValue, IsTree, IsLeaf, leaf_count}
+use Rattle.bp_arrangement.specs.Swaps.{head, leaves_of}
 use Rattle.bp_arrangement.specs.declared.fact.Fact.{Fact}
 use Rattle.bp_arrangement.specs.declared.fact.Fact.TheVariants.{Before, NotBefore, Least, Below}
 use Rattle.bp_arrangement.specs.Facts.{denial}
@@ -15,13 +16,17 @@ use Rattle.bp_lemmas.specs.Standing.{Lemma, IsNamed, Stands, EachStands, EndsEmp
 use Rattle.bp_lemmas.specs.Trees.{tree_system}
 use Rattle.bp_lemmas.proofs.Law.{grown_last}
 use Rattle.bp_lemmas.proofs.Trees.{lemmas_law}
+use Rattle.bp_mirror.specs.Systems.{mirror_system}
+use Rattle.bp_mirror.proofs.Bounding.{mirrored_law}
+use Rattle.bp_replay.specs.Readings.{HavePlaces}
 use Rattle.bp_replay.specs.declared.known.Known.{Known}
 use Rattle.bp_replay.specs.declared.packed.Packed.{Packed}
-use Rattle.bp_replay.specs.Tasks.{Task, system_of}
-use Rattle.bp_replay.specs.Kept.{rows, Keeps}
+use Rattle.bp_replay.specs.Tasks.{Ties, cornered, mirrored, Task, system_by, system_of, ShownBy, IsBelowShown}
+use Rattle.bp_replay.specs.Cells.{rows}
+use Rattle.bp_replay.specs.Kept.{Keeps}
 use Rattle.bp_replay.specs.Stored.{IsSmall, facts_in}
-use Rattle.bp_replay.specs.Replays.{IsSmallCode, IsReplay}
-use Rattle.bp_replay.proofs.Shown.{named_two, named_leaf}
+use Rattle.bp_replay.specs.Replays.{IsSmallCode, IsTie, IsSwapOf, IsReplay}
+use Rattle.bp_replay.proofs.Tied.{named_two, named_leaf}
 
 -- facts that name leaves, and whose codes are small, can be packed
 pub small_fact : (t : Task) → leaf_count t.tree < rows → (f : Fact) → IsNamed (system_of t) f → IsSmallCode f → IsSmall f
@@ -46,6 +51,23 @@ each_last S earlier [] l each stands = (subst (λ (e : List (List Fact)). Stands
 each_last S earlier (m ∷ ls) l each stands =
     (each.0, each_last S (earlier ++ m.facts ∷ []) ls l each.1 (subst (λ (e : List (List Fact)). Stands S e l) (sym (append_assoc earlier (m.facts ∷ []) (facts_of ls))) stands))
 
+-- what lemmas show that stand and end empty
+shown : (ties : Ties) (T : TreeValue) (G : Sheet) (bound : ℕ) (heads : List Pair) (swaps : List (List Pair)) (ls : List Lemma) → IsTree T → IsTie ties T G → All (IsSwapOf ties T) swaps → map head swaps ≡ heads → EachStands (system_by ties T G bound heads) [] ls → EndsEmpty (facts_of ls) → ShownBy ties T G bound
+shown (cornered corner) T G bound heads swaps ls tree tie admissible same stand ends =
+    lemmas_law T tree G bound corner.i corner.j swaps ls record {
+      corner = tie;
+      admissible = admissible;
+      stand = subst (λ (hs : List Pair). EachStands (tree_system T G bound corner.i corner.j hs) [] ls) (sym same) stand;
+      ends = ends;
+    }
+shown (mirrored kind mirror) T G bound heads swaps ls tree tie admissible same stand ends =
+    mirrored_law T tree kind mirror bound swaps ls record {
+      is_mirror = tie.0;
+      admissible = admissible;
+      stand = subst (λ (hs : List Pair). EachStands (mirror_system T kind mirror bound hs) [] ls) (sym same) stand;
+      ends = ends;
+    }
+
 module _ (t : Task) (S : Known) (lemmas : List (List Fact)) (is : IsReplay t S lemmas) where
   pub next_replay : (R : Known) (next : List (List Fact)) (l : Lemma) → next ≡ lemmas ++ l.facts ∷ [] → Stands (system_of t) lemmas l → Keeps t R (grown (system_of t) (root_after (system_of t) lemmas) l.facts) → IsReplay t R next
   next_replay R next l more stands keeps =
@@ -61,16 +83,20 @@ module _ (t : Task) (S : Known) (lemmas : List (List Fact)) (is : IsReplay t S l
       } in
       subst (IsReplay t R) (sym more) replay
 
-  pub replay_law : EndsEmpty lemmas → NoneBelow t.tree t.sheet t.bound
+  pub replay_law : EndsEmpty lemmas → IsBelowShown t
   replay_law ends =
       let heads = is.task.heads in
       let ls = is.stood.0 in
-      lemmas_law t.tree is.task.tree t.sheet t.bound t.corner.i t.corner.j heads.0 ls record {
-        corner = is.task.corner;
-        admissible = heads.1.0;
-        stand = subst (λ (hs : List Pair). EachStands (tree_system t.tree t.sheet t.bound t.corner.i t.corner.j hs) [] ls) (sym heads.1.1) is.stood.1.0;
-        ends = subst EndsEmpty (sym is.stood.1.1) ends;
-      }
+      shown t.ties t.tree t.sheet t.bound t.heads heads.0 ls is.task.tree is.task.ties heads.1.0 heads.1.1 is.stood.1.0 (subst EndsEmpty (sym is.stood.1.1) ends)
+
+-- the leaves of a mirror have places
+pub mirror_places : (T : TreeValue) (pairs : List Pair) → leaf_count T < rows → All (IsLeaf T) (leaves_of pairs) → HavePlaces pairs
+mirror_places T [] few leaves = λ k d within. absurd (omega (arith, within))
+mirror_places T (p ∷ pairs) few leaves =
+    let first : IsLeaf T p.i = leaves 0 0 (omega arith) in
+    let second : IsLeaf T p.j = leaves 1 0 (omega arith) in
+    All-cons (λ p. (p.i < rows) × (p.j < rows)) p pairs (omega (arith, first, few), omega (arith, second, few))
+    (mirror_places T pairs few (λ k d within. leaves (suc (suc k)) d (omega (arith, within))))
 
 -- the last lemma's facts
 ends_last : (lemmas : List (List Fact)) (n : ℕ) → length lemmas ≡ suc n → (get_or lemmas n [] ≡ [] → EndsEmpty lemmas) × (EndsEmpty lemmas → get_or lemmas n [] ≡ [])

@@ -1,4 +1,6 @@
 pub mod Breaks
+pub mod Cells
+pub mod Tied
 pub mod Shown
 pub mod Applied
 pub mod Closing

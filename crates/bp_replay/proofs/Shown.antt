@@ -1,91 +1,75 @@
 -- Tables that show a knowledge, after each kind of write.
-use Rattle.std.proofs.Common.{◌≡◌, ◌≢◌, ◌⊎◌, ℕ, ◌<◌, ◌≤◌, ◌==◌, ◌&&◌, ◌||◌, max, min, Bool, true, false, nat_le, not, if◌then◌else◌, IsTrue, List, [], ◌∷◌, All, length, get_or, set, refl, sym, ◌∙◌, ap, subst, arith, inl, inr}
-use Rattle.std.proofs.lemmas.Bool.{cases_Bool, cases_eq, cases_lt, and_parts, and_from, or_cases, eqb-true, eq-eqb, ne_eqb, le-leb, false≢true}
+use Rattle.std.proofs.Common.{◌≡◌, ◌≢◌, ◌⊎◌, ℕ, ◌<◌, ◌≤◌, ◌==◌, ◌||◌, max, min, Bool, true, false, if◌then◌else◌, IsTrue, List, length, get_or, set, refl, sym, ◌∙◌, ap, subst, arith, inl, inr}
+use Rattle.std.proofs.lemmas.Bool.{cases_Bool, cases_eq, cases_lt, or_cases, eqb-true, eq-eqb, ne_eqb, false≢true}
 use Rattle.std.proofs.lemmas.List.{get_or-set_same, get_or-set_other, length-set}
 use Rattle.bp_base.specs.declared.point.Axis.{Axis}
-use Rattle.bp_base.specs.declared.point.Axis.TheVariants.{X, Y}
-use Rattle.bp_base.specs.Tree.{TreeValue, IsLeaf, leaf_count}
-use Rattle.bp_metric.specs.Distance.{leaf_dist}
-use Rattle.bp_metric.specs.Valid.{IsPair}
-use Rattle.std.proofs.lemmas.List.Elements.{All-cons}
-use Rattle.bp_arrangement.specs.declared.fact.Fact.{Fact}
-use Rattle.bp_arrangement.specs.declared.fact.Fact.TheVariants.{NotBefore}
-use Rattle.bp_lemmas.specs.Hints.{no_order}
-use Rattle.bp_lemmas.specs.Standing.{IsNamed}
-use Rattle.bp_lemmas.specs.Systems.{Order, is_order, System}
+use Rattle.bp_base.specs.Tree.{IsTree, leaf_count}
+use Rattle.bp_lemmas.specs.Systems.{Order, never, is_order, System}
 use Rattle.bp_lemmas.specs.Knowledge.{Knowledge, raised, lowered, with_order, without_order, IsBroken, crossed, both, circular}
-use Rattle.bp_lemmas.specs.Trees.{number, axis_of, leaf_of, is_leaf, are_two_leaves, order_of, tree_system}
 use Rattle.bp_lemmas.proofs.Told.{same_order}
-use Rattle.bp_lemmas.proofs.Trees.{is_leaf_leaf, axis_number, leaf_number, two_leaves}
+use Rattle.bp_replay.specs.declared.cell.Cell.{Cell}
 use Rattle.bp_replay.specs.declared.known.Known.{Known}
+use Rattle.bp_replay.specs.Cells.{places, rows, cell_by, cell_of}
 use Rattle.bp_replay.specs.Sets.{has}
-use Rattle.bp_replay.specs.Tasks.{Task, system_of}
-use Rattle.bp_replay.specs.Kept.{places, rows, most_code, AreTwoLeaves, Shows, KeptAs, Keeps}
+use Rattle.bp_replay.specs.Tasks.{Ties, cornered, mirrored, Task, system_by, system_of}
+use Rattle.bp_replay.specs.Kept.{most_code, AreTwoLeaves, has_at, KnowsNever, Shows, KeptAs, Keeps}
 use Rattle.bp_replay.proofs.Breaks.{raised_breaks, raised_stays, raised_reaches, lowered_breaks, lowered_stays, lowered_reaches, with_order_stays, without_order_stays, without_order_breaks, without_order_reaches, with_order_fails, with_order_turned, order_itself}
+use Rattle.bp_replay.proofs.Tied.{same_cell, cell_order, turned_same, turned_other, corner_met, two_named}
 
-pub number_within : (axis : Axis) (i : ℕ) → i < rows → number axis i < places
-unfolding number
-number_within X i within = omega (arith, within)
-number_within Y i within = omega (arith, within)
+-- the table after a number is written into the set of a cell's row
+module _ (t : Task) (xs : List ℕ) (value : Order → Bool) (cell : Cell) (o : Order) (row : ℕ) (long : length xs ≡ places) (within : cell.row < places) (few : leaf_count t.tree < rows)
+    (shows : (a : Axis) (k l : ℕ) → AreTwoLeaves t.tree k l → has_at xs (cell_of t a k l) ≡ value ((system_of t).order a k l))
+    (there : (a : Axis) (k l : ℕ) → AreTwoLeaves t.tree k l → (system_of t).order a k l ≡ o → cell_of t a k l ≡ cell)
+    (here : (a : Axis) (k l : ℕ) → AreTwoLeaves t.tree k l → cell_of t a k l ≡ cell → (system_of t).order a k l ≡ o)
+    (small : (a : Axis) (k l : ℕ) → AreTwoLeaves t.tree k l → (cell_of t a k l).column < 64)
+    (written : (l : ℕ) → l < 64 → has row l ≡ ((l == cell.column) || has (get_or xs cell.row 0) l)) where
+  abbrev at_name : Axis → ℕ → ℕ → Order
+  at_name a k l = (system_of t).order a k l
 
--- orders of the same numbers are of the same leaves on the same axis
-pub order_names : (T : TreeValue) (a axis : Axis) (k l i j : ℕ) → IsTrue (is_order (order_of T a k l) (order_of T axis i j)) → (a ≡ axis) × (k ≡ i) × (l ≡ j)
-unfolding order_of
-order_names T a axis k l i j same =
-    let parts = and_parts ((number a k == number axis i) && (number a l == number axis j)) (leaf_dist T k l == leaf_dist T i j) same in
-    let ends = and_parts (number a k == number axis i) (number a l == number axis j) parts.0 in
-    let one : number a k ≡ number axis i = eqb-true (number a k) (number axis i) ends.0 in
-    let two : number a l ≡ number axis j = eqb-true (number a l) (number axis j) ends.1 in (
-      sym (axis_number a k) ∙ ap axis_of one ∙ axis_number axis i,
-      sym (leaf_number a k) ∙ ap leaf_of one ∙ leaf_number axis i,
-      sym (leaf_number a l) ∙ ap leaf_of two ∙ leaf_number axis j,
-    )
+  is_there : (a : Axis) (k l : ℕ) → AreTwoLeaves t.tree k l → IsTrue (is_order (at_name a k l) o) → cell_of t a k l ≡ cell
+  is_there a k l two same = there a k l two (same_order (at_name a k l) o same)
 
-order_same : (T : TreeValue) (a axis : Axis) (k l i j : ℕ) → a ≡ axis → k ≡ i → l ≡ j → IsTrue (is_order (order_of T a k l) (order_of T axis i j))
-order_same T a axis k l i j same_axis first second =
-    subst (λ (b : Axis). IsTrue (is_order (order_of T a k l) (order_of T b i j))) same_axis
-    (subst (λ (m : ℕ). IsTrue (is_order (order_of T a k l) (order_of T a m j))) first
-    (subst (λ (m : ℕ). IsTrue (is_order (order_of T a k l) (order_of T a k m))) second (order_itself (order_of T a k l))))
+  is_here : (a : Axis) (k l : ℕ) → AreTwoLeaves t.tree k l → cell_of t a k l ≡ cell → IsTrue (is_order (at_name a k l) o)
+  is_here a k l two same = subst (λ (p : Order). IsTrue (is_order (at_name a k l) p)) (here a k l two same) (order_itself (at_name a k l))
 
--- the table of orders after a number is written into the set of a coordinate
-module _ (T : TreeValue) (xs : List ℕ) (value : Order → Bool) (axis : Axis) (i j row : ℕ) (long : length xs ≡ places) (iw : i < rows) (jw : j < rows)
-    (shows : (a : Axis) (k l : ℕ) → k < rows → l < rows → has (get_or xs (number a k) 0) l ≡ value (order_of T a k l))
-    (written : (l : ℕ) → l < 64 → has row l ≡ ((l == j) || has (get_or xs (number axis i) 0) l)) where
-  in_row : (a : Axis) (k l : ℕ) → k < rows → l < rows → number a k ≡ number axis i → has row l ≡ (is_order (order_of T a k l) (order_of T axis i j) || value (order_of T a k l))
-  in_row a k l kw lw here =
-      let same_axis : a ≡ axis = sym (axis_number a k) ∙ ap axis_of here ∙ axis_number axis i in
-      let same_leaf : k ≡ i = sym (leaf_number a k) ∙ ap leaf_of here ∙ leaf_number axis i in
-      let old : has (get_or xs (number axis i) 0) l ≡ value (order_of T a k l) = ap (λ (p : ℕ). has (get_or xs p 0) l) (sym here) ∙ shows a k l kw lw in
-      written l (omega (arith, lw)) ∙ ap (λ (b : Bool). (l == j) || b) old
-      ∙ ap (λ (b : Bool). b || value (order_of T a k l)) (equal same_axis same_leaf)
-    where
-      equal : a ≡ axis → k ≡ i → (l == j) ≡ is_order (order_of T a k l) (order_of T axis i j)
-      equal same_axis same_leaf = elim (cases_Bool (l == j)) [
-        | inl is ↦ is ∙ sym (order_same T a axis k l i j same_axis same_leaf (eqb-true l j is))
-        | inr isnt ↦ elim (cases_Bool (is_order (order_of T a k l) (order_of T axis i j))) [
-          | inl same ↦ absurd (false≢true (sym isnt ∙ eq-eqb l j (order_names T a axis k l i j same).2))
-          | inr other ↦ isnt ∙ sym other
-        ]
-      ]
+  in_row : (a : Axis) (k l : ℕ) → AreTwoLeaves t.tree k l → (cell_of t a k l).row ≡ cell.row → ((cell_of t a k l).column == cell.column) ≡ is_order (at_name a k l) o
+  in_row a k l two same = elim (cases_Bool ((cell_of t a k l).column == cell.column)) [
+    | inl is ↦
+        let column = eqb-true (cell_of t a k l).column cell.column is in
+        is ∙ sym (is_here a k l two (λ i. record { row = same i; column = column i }))
+    | inr isnt ↦ elim (cases_Bool (is_order (at_name a k l) o)) [
+      | inl order ↦ absurd (false≢true (sym isnt ∙ eq-eqb (cell_of t a k l).column cell.column (ap (λ (c : Cell). c.column) (is_there a k l two order))))
+      | inr other ↦ isnt ∙ sym other
+    ]
+  ]
 
-  no_order_there : (a : Axis) (k l : ℕ) → number a k ≢ number axis i → is_order (order_of T a k l) (order_of T axis i j) ≡ false
-  no_order_there a k l other = elim (cases_Bool (is_order (order_of T a k l) (order_of T axis i j))) [
-    | inl same ↦
-        let names = order_names T a axis k l i j same in
-        absurd (other (ap (λ (b : Axis). number b k) names.0 ∙ ap (λ (m : ℕ). number axis m) names.1))
+  not_in_row : (a : Axis) (k l : ℕ) → AreTwoLeaves t.tree k l → (cell_of t a k l).row ≢ cell.row → is_order (at_name a k l) o ≡ false
+  not_in_row a k l two other = elim (cases_Bool (is_order (at_name a k l) o)) [
+    | inl same ↦ absurd (other (ap (λ (c : Cell). c.row) (is_there a k l two same)))
     | inr isnt ↦ isnt
   ]
 
-  pub order_written : (a : Axis) (k l : ℕ) → k < rows → l < rows → has (get_or (set xs (number axis i) row) (number a k) 0) l ≡ (is_order (order_of T a k l) (order_of T axis i j) || value (order_of T a k l))
-  order_written a k l kw lw = elim (cases_eq (number a k) (number axis i)) [
-    | inl here ↦
-        ap (λ (p : ℕ). has (get_or (set xs (number axis i) row) p 0) l) here
-        ∙ ap (λ (r : ℕ). has r l) (get_or-set_same xs (number axis i) row 0 (omega (arith, number_within axis i iw, long)))
-        ∙ in_row a k l kw lw here
+  pub order_written : (a : Axis) (k l : ℕ) → AreTwoLeaves t.tree k l → has_at (set xs cell.row row) (cell_of t a k l) ≡ (is_order (at_name a k l) o || value (at_name a k l))
+  order_written a k l two = elim (cases_eq (cell_of t a k l).row cell.row) [
+    | inl same ↦
+        let column = (cell_of t a k l).column in
+        ap (λ (p : ℕ). has (get_or (set xs cell.row row) p 0) column) same
+        ∙ ap (λ (r : ℕ). has r column) (get_or-set_same xs cell.row row 0 (omega (arith, within, long)))
+        ∙ written column (small a k l two)
+        ∙ ap (λ (b : Bool). b || has (get_or xs cell.row 0) column) (in_row a k l two same)
+        ∙ ap (λ (b : Bool). is_order (at_name a k l) o || b) (ap (λ (p : ℕ). has (get_or xs p 0) column) (sym same) ∙ shows a k l two)
     | inr other ↦
-        rw (no_order_there a k l other)
-        (ap (λ (r : ℕ). has r l) (get_or-set_other xs (number axis i) (number a k) row 0 other) ∙ shows a k l kw lw)
+        rw (not_in_row a k l two other)
+        (ap (λ (r : ℕ). has r (cell_of t a k l).column) (get_or-set_other xs cell.row (cell_of t a k l).row row 0 other) ∙ shows a k l two)
   ]
+
+-- columns of cells are numbers that sets have
+pub small_column : (t : Task) → leaf_count t.tree < rows → (axis : Axis) (i j : ℕ) → AreTwoLeaves t.tree i j → (cell_of t axis i j).column < 64
+small_column t few axis i j two = by t.ties
+  where
+    by : (ties : Ties) → (cell_by ties t.tree axis i j).column < 64
+    by (cornered corner) = omega (arith, two.1, few)
+    by (mirrored kind mirror) = omega arith
 
 module _ (t : Task) (S : Known) (K : Knowledge) where
   pub kept_broken : S.broken ≡ true → Keeps t S K → IsBroken (system_of t) K
@@ -140,6 +124,7 @@ module _ (t : Task) (S : Known) (K : Knowledge) (u code : ℕ) (within : u < pla
         small = shows.small;
         holds = shows.holds;
         fails = shows.fails;
+        never = shows.never;
       } (λ broken. elim (raised_breaks sys K u code broken) [
         | inl before ↦ kept.1 before
         | inr crossing ↦ kept.1 (crossed u (omega (arith, crossing, over, shows.lower u within)))
@@ -164,6 +149,7 @@ module _ (t : Task) (S : Known) (K : Knowledge) (u code : ℕ) (within : u < pla
         small = shows.small;
         holds = shows.holds;
         fails = shows.fails;
+        never = shows.never;
       } (λ broken. elim (raised_breaks sys K u code broken) [
         | inl before ↦ kept.1 before
         | inr crossing ↦ omega (arith, crossing, under, shows.upper u within)
@@ -188,6 +174,7 @@ module _ (t : Task) (S : Known) (K : Knowledge) (u code : ℕ) (within : u < pla
         small = λ k. least_small (K.upper k) code most_code (k == u) (shows.small k);
         holds = shows.holds;
         fails = shows.fails;
+        never = shows.never;
       } (λ broken. elim (lowered_breaks sys K u code broken) [
         | inl before ↦ kept.1 before
         | inr crossing ↦ kept.1 (crossed u (omega (arith, crossing, over, shows.upper u within)))
@@ -212,116 +199,141 @@ module _ (t : Task) (S : Known) (K : Knowledge) (u code : ℕ) (within : u < pla
         small = λ k. least_small (K.upper k) code most_code (k == u) (shows.small k);
         holds = shows.holds;
         fails = shows.fails;
+        never = shows.never;
       } (λ broken. elim (lowered_breaks sys K u code broken) [
         | inl before ↦ kept.1 before
         | inr crossing ↦ omega (arith, crossing, over, shows.lower u within)
       ])
 
 -- a known order of two leaves breaks exactly where it is known not to hold, or the turned one to hold
-module _ (t : Task) (K : Knowledge) (axis : Axis) (i j : ℕ) where
-  abbrev T : TreeValue
-  T = t.tree
+module _ (t : Task) (K : Knowledge) (axis : Axis) (i j : ℕ) (tree : IsTree t.tree) (differ : i ≢ j) (met : (system_of t).order axis i j ≡ never → ⊥) where
+  abbrev named : Axis → ℕ → ℕ → Order
+  named a k l = (system_of t).order a k l
 
   abbrev taken : Order
-  taken = order_of T axis i j
+  taken = named axis i j
 
-  turned_back : (a : Axis) (k l : ℕ) (value : Order → Bool) → IsTrue (is_order (order_of T a k l) taken) → IsTrue (value (order_of T a l k)) → IsTrue (value (order_of T axis j i))
-  turned_back a k l value same is =
-      let names = order_names T a axis k l i j same in
-      subst (λ (b : Axis). IsTrue (value (order_of T b j i))) names.0
-      (subst (λ (m : ℕ). IsTrue (value (order_of T a j m))) names.1
-      (subst (λ (m : ℕ). IsTrue (value (order_of T a m k))) names.2 is))
+  turned : (a : Axis) (k l : ℕ) → IsTrue (is_order (named a k l) taken) → named a l k ≡ named axis j i
+  turned a k l same = turned_same t.ties t.tree t.sheet t.bound t.heads tree a axis k l i j met (same_order (named a k l) taken same)
 
-  pub with_order_breaks : IsBroken (system_of t) (with_order K taken) → IsBroken (system_of t) K ⊎ (IsTrue (K.fails taken) ⊎ IsTrue (K.holds (order_of T axis j i)))
-  unfolding with_order tree_system
+  turned_back : (a : Axis) (k l : ℕ) → IsTrue (is_order (named a k l) taken) → IsTrue (K.holds (named a l k)) → IsTrue (K.holds (named axis j i))
+  turned_back a k l same is = subst (λ (o : Order). IsTrue (K.holds o)) (turned a k l same) is
+
+  not_both : (a : Axis) (k l : ℕ) → IsTrue (is_order (named a k l) taken) → IsTrue (is_order (named a l k) taken) → ⊥
+  not_both a k l one other = turned_other t.ties t.tree t.sheet t.bound t.heads tree axis i j differ met (sym (same_order (named a l k) taken other) ∙ turned a k l one)
+
+  pub with_order_breaks : IsBroken (system_of t) (with_order K taken) → IsBroken (system_of t) K ⊎ (IsTrue (K.fails taken) ⊎ IsTrue (K.holds (named axis j i)))
+  unfolding with_order
   with_order_breaks (crossed k over) = inl (crossed k over)
   with_order_breaks (both p holds fails) = elim (or_cases (is_order p taken) (K.holds p) holds) [
     | inl same ↦ inr (inl (subst (λ (r : Order). IsTrue (K.fails r)) (same_order p taken same) fails))
     | inr before ↦ inl (both p before fails)
   ]
-  with_order_breaks (circular a k l is one other) = elim (or_cases (is_order (order_of T a k l) taken) (K.holds (order_of T a k l)) one) [
-    | inl same ↦ elim (or_cases (is_order (order_of T a l k) taken) (K.holds (order_of T a l k)) other) [
-      | inl turned ↦ absurd ((two_leaves T k l is).2 ((order_names T a axis k l i j same).1 ∙ sym (order_names T a axis l k i j turned).1))
-      | inr back ↦ inr (inr (turned_back a k l K.holds same back))
+  with_order_breaks (circular a k l is one other) = elim (or_cases (is_order (named a k l) taken) (K.holds (named a k l)) one) [
+    | inl same ↦ elim (or_cases (is_order (named a l k) taken) (K.holds (named a l k)) other) [
+      | inl both_taken ↦ absurd (not_both a k l same both_taken)
+      | inr back ↦ inr (inr (turned_back a k l same back))
     ]
-    | inr before ↦ elim (or_cases (is_order (order_of T a l k) taken) (K.holds (order_of T a l k)) other) [
-      | inl turned ↦ inr (inr (turned_back a l k K.holds turned before))
+    | inr before ↦ elim (or_cases (is_order (named a l k) taken) (K.holds (named a l k)) other) [
+      | inl same ↦ inr (inr (turned_back a l k same before))
       | inr back ↦ inl (circular a k l is before back)
     ]
   ]
 
-  pub with_order_turns : IsTrue (are_two_leaves T i j) → IsTrue (K.holds (order_of T axis j i)) → IsBroken (system_of t) (with_order K taken)
-  unfolding tree_system
-  with_order_turns two turned = with_order_turned (system_of t) K axis i j two turned
+-- an order that isn't known not to hold is one that some meet
+some_meet : (t : Task) (K : Knowledge) → KnowsNever t.ties K.fails → (axis : Axis) (i j : ℕ) → K.fails ((system_of t).order axis i j) ≡ false → (system_of t).order axis i j ≡ never → ⊥
+some_meet t K = by t.ties
+  where
+    by : (ties : Ties) → KnowsNever ties K.fails → (axis : Axis) (i j : ℕ) → K.fails ((system_by ties t.tree t.sheet t.bound t.heads).order axis i j) ≡ false → (system_by ties t.tree t.sheet t.bound t.heads).order axis i j ≡ never → ⊥
+    by (cornered corner) knows axis i j not same = corner_met corner t.tree t.sheet t.bound t.heads axis i j same
+    by (mirrored kind mirror) knows axis i j not same = false≢true (sym not ∙ ap K.fails same ∙ knows)
 
-module _ (t : Task) (S : Known) (K : Knowledge) (axis : Axis) (i j : ℕ) (iw : i < rows) (jw : j < rows) (keeps : Keeps t S K) where
+-- what is known never to hold still is
+never_still : (ties : Ties) (K : Knowledge) (o : Order) → KnowsNever ties K.fails → KnowsNever ties (λ (p : Order). is_order p o || K.fails p)
+never_still (cornered corner) K o knows = knows
+never_still (mirrored kind mirror) K o knows = either (is_order never o)
+  where
+    either : (b : Bool) → IsTrue (b || K.fails never)
+    either true = refl
+    either false = knows
+
+module _ (t : Task) (S : Known) (K : Knowledge) (axis : Axis) (i j : ℕ) (two : AreTwoLeaves t.tree i j) (few : leaf_count t.tree < rows) (keeps : Keeps t S K) where
   abbrev order_here : Order
-  order_here = order_of t.tree axis i j
+  order_here = (system_of t).order axis i j
+
+  abbrev cell_here : Cell
+  cell_here = cell_of t axis i j
 
   pub know_broken : S.broken ≡ true → Keeps t S (with_order K order_here)
   know_broken is = keeps_broken t S (with_order K order_here) is (with_order_stays (system_of t) K order_here (kept_broken t S K is keeps))
 
-  pub know_fails : S.broken ≡ false → has (get_or S.fails (number axis i) 0) j ≡ true → Keeps t (record S { broken = true }) (with_order K order_here)
-  know_fails is fails = with_order_fails (system_of t) K order_here (sym ((kept_shows t S K is keeps).0.fails axis i j iw jw) ∙ fails)
+  pub know_fails : IsTrue (K.fails order_here) → Keeps t (record S { broken = true }) (with_order K order_here)
+  know_fails fails = with_order_fails (system_of t) K order_here fails
 
-  pub know_turned : S.broken ≡ false → IsTrue (are_two_leaves t.tree i j) → has (get_or S.holds (number axis j) 0) i ≡ true → Keeps t (record S { broken = true }) (with_order K order_here)
-  know_turned is two turned = with_order_turns t K axis i j two (sym ((kept_shows t S K is keeps).0.holds axis j i jw iw) ∙ turned)
+  pub know_turned : IsTrue (K.holds ((system_of t).order axis j i)) → Keeps t (record S { broken = true }) (with_order K order_here)
+  know_turned back = with_order_turned (system_of t) K axis i j (two_named t axis i j two) back
 
-  pub know_written : (row : ℕ) → S.broken ≡ false → has (get_or S.fails (number axis i) 0) j ≡ false → has (get_or S.holds (number axis j) 0) i ≡ false → ((l : ℕ) → l < 64 → has row l ≡ ((l == j) || has (get_or S.holds (number axis i) 0) l)) → Keeps t (record S { holds = set S.holds (number axis i) row }) (with_order K order_here)
-  unfolding with_order
-  know_written row is not_fails not_turned written =
-      let kept = kept_shows t S K is keeps in
-      let shows = kept.0 in
-      keeps_shows t (record S { holds = set S.holds (number axis i) row }) (with_order K order_here) is record {
-        lowers = shows.lowers;
-        uppers = shows.uppers;
-        holdings = length-set S.holds (number axis i) row ∙ shows.holdings;
-        failings = shows.failings;
-        lower = shows.lower;
-        upper = shows.upper;
-        small = shows.small;
-        holds = order_written t.tree S.holds K.holds axis i j row shows.holdings iw jw shows.holds written;
-        fails = shows.fails;
-      } (λ broken. elim (with_order_breaks t K axis i j broken) [
-        | inl before ↦ kept.1 before
-        | inr (inl fails) ↦ false≢true (sym not_fails ∙ shows.fails axis i j iw jw ∙ fails)
-        | inr (inr turned) ↦ false≢true (sym not_turned ∙ shows.holds axis j i jw iw ∙ turned)
-      ])
+  there : (a : Axis) (k l : ℕ) → AreTwoLeaves t.tree k l → (system_of t).order a k l ≡ order_here → cell_of t a k l ≡ cell_here
+  there a k l other same = same_cell t.ties t.tree t.sheet t.bound t.heads few a axis k l i j other two same
+
+  here : (a : Axis) (k l : ℕ) → AreTwoLeaves t.tree k l → cell_of t a k l ≡ cell_here → (system_of t).order a k l ≡ order_here
+  here a k l other same = cell_order t.ties t.tree t.sheet t.bound t.heads few a axis k l i j other two same
+
+  module _ (cell : Cell) (row : ℕ) (is_cell : cell ≡ cell_here) (within : cell.row < places) (whole : S.broken ≡ false) where
+    at_cell : (a : Axis) (k l : ℕ) → AreTwoLeaves t.tree k l → (system_of t).order a k l ≡ order_here → cell_of t a k l ≡ cell
+    at_cell a k l other same = there a k l other same ∙ sym is_cell
+
+    of_cell : (a : Axis) (k l : ℕ) → AreTwoLeaves t.tree k l → cell_of t a k l ≡ cell → (system_of t).order a k l ≡ order_here
+    of_cell a k l other same = here a k l other (same ∙ is_cell)
+
+    pub know_written : IsTree t.tree → K.fails order_here ≡ false → K.holds ((system_of t).order axis j i) ≡ false → ((l : ℕ) → l < 64 → has row l ≡ ((l == cell.column) || has (get_or S.holds cell.row 0) l)) → Keeps t (record S { holds = set S.holds cell.row row }) (with_order K order_here)
+    unfolding with_order
+    know_written tree not_fails not_turned written =
+        let kept = kept_shows t S K whole keeps in
+        let shows = kept.0 in
+        keeps_shows t (record S { holds = set S.holds cell.row row }) (with_order K order_here) whole record {
+          lowers = shows.lowers;
+          uppers = shows.uppers;
+          holdings = length-set S.holds cell.row row ∙ shows.holdings;
+          failings = shows.failings;
+          lower = shows.lower;
+          upper = shows.upper;
+          small = shows.small;
+          holds = order_written t S.holds K.holds cell order_here row shows.holdings within few shows.holds at_cell of_cell (small_column t few) written;
+          fails = shows.fails;
+          never = shows.never;
+        } (λ broken. elim (with_order_breaks t K axis i j tree two.2 (some_meet t K shows.never axis i j not_fails) broken) [
+          | inl before ↦ kept.1 before
+          | inr (inl fails) ↦ false≢true (sym not_fails ∙ fails)
+          | inr (inr back) ↦ false≢true (sym not_turned ∙ back)
+        ])
+
+    pub deny_written : K.holds order_here ≡ false → ((l : ℕ) → l < 64 → has row l ≡ ((l == cell.column) || has (get_or S.fails cell.row 0) l)) → Keeps t (record S { fails = set S.fails cell.row row }) (without_order K order_here)
+    unfolding without_order
+    deny_written not_holds written =
+        let kept = kept_shows t S K whole keeps in
+        let shows = kept.0 in
+        keeps_shows t (record S { fails = set S.fails cell.row row }) (without_order K order_here) whole record {
+          lowers = shows.lowers;
+          uppers = shows.uppers;
+          holdings = shows.holdings;
+          failings = length-set S.fails cell.row row ∙ shows.failings;
+          lower = shows.lower;
+          upper = shows.upper;
+          small = shows.small;
+          holds = shows.holds;
+          fails = order_written t S.fails K.fails cell order_here row shows.failings within few shows.fails at_cell of_cell (small_column t few) written;
+          never = never_still t.ties K order_here shows.never;
+        } (λ broken. elim (without_order_breaks (system_of t) K order_here broken) [
+          | inl before ↦ kept.1 before
+          | inr holds ↦ false≢true (sym not_holds ∙ holds)
+        ])
 
   pub deny_broken : S.broken ≡ true → Keeps t S (without_order K order_here)
   deny_broken is = keeps_broken t S (without_order K order_here) is (without_order_stays (system_of t) K order_here (kept_broken t S K is keeps))
 
-  pub deny_holds : S.broken ≡ false → has (get_or S.holds (number axis i) 0) j ≡ true → Keeps t (record S { broken = true }) (without_order K order_here)
-  deny_holds is holds = without_order_reaches (system_of t) K order_here (sym ((kept_shows t S K is keeps).0.holds axis i j iw jw) ∙ holds)
-
-  pub deny_written : (row : ℕ) → S.broken ≡ false → has (get_or S.holds (number axis i) 0) j ≡ false → ((l : ℕ) → l < 64 → has row l ≡ ((l == j) || has (get_or S.fails (number axis i) 0) l)) → Keeps t (record S { fails = set S.fails (number axis i) row }) (without_order K order_here)
-  unfolding without_order
-  deny_written row is not_holds written =
-      let kept = kept_shows t S K is keeps in
-      let shows = kept.0 in
-      keeps_shows t (record S { fails = set S.fails (number axis i) row }) (without_order K order_here) is record {
-        lowers = shows.lowers;
-        uppers = shows.uppers;
-        holdings = shows.holdings;
-        failings = length-set S.fails (number axis i) row ∙ shows.failings;
-        lower = shows.lower;
-        upper = shows.upper;
-        small = shows.small;
-        holds = shows.holds;
-        fails = order_written t.tree S.fails K.fails axis i j row shows.failings iw jw shows.fails written;
-      } (λ broken. elim (without_order_breaks (system_of t) K order_here broken) [
-        | inl before ↦ kept.1 before
-        | inr holds ↦ false≢true (sym not_holds ∙ shows.holds axis i j iw jw ∙ holds)
-      ])
-
--- two leaves by their test
-pub leaves_two : (T : TreeValue) (i j : ℕ) → IsLeaf T i → IsLeaf T j → i ≢ j → IsTrue (are_two_leaves T i j)
-leaves_two T i j first second differ =
-    and_from (is_leaf T i && is_leaf T j) (not (i == j))
-    (and_from (is_leaf T i) (is_leaf T j)
-    (and_from (nat_le 1 i) (nat_le i (leaf_count T)) (le-leb 1 i first.0) (le-leb i (leaf_count T) first.1))
-    (and_from (nat_le 1 j) (nat_le j (leaf_count T)) (le-leb 1 j second.0) (le-leb j (leaf_count T) second.1)))
-    (ap not (ne_eqb i j differ))
+  pub deny_holds : IsTrue (K.holds order_here) → Keeps t (record S { broken = true }) (without_order K order_here)
+  deny_holds holds = without_order_reaches (system_of t) K order_here holds
 
 -- codes of a knowledge that isn't broken are small
 pub below_most : (t : Task) (S : Known) (K : Knowledge) → Shows t S K → (IsBroken (system_of t) K → ⊥) → (u : ℕ) → K.lower u < most_code
@@ -329,32 +341,3 @@ below_most t S K shows whole u = elim (cases_lt (K.lower u) (K.upper u)) [
   | inl less ↦ omega (arith, less, shows.small u)
   | inr over ↦ absurd (whole (crossed u over))
 ]
-
--- what facts name
-module _ (t : Task) where
-  pub named_two : (axis : Axis) (i j : ℕ) → IsTrue ((system_of t).has_order axis i j) → AreTwoLeaves t.tree i j
-  unfolding tree_system
-  named_two axis i j named = two_leaves t.tree i j named
-
-  pub named_leaf : (axis : Axis) (i : ℕ) → IsTrue ((system_of t).has_coordinate axis i) → IsLeaf t.tree i
-  unfolding tree_system
-  named_leaf axis i named = is_leaf_leaf t.tree i named
-
-pub pair_two : (T : TreeValue) (i j : ℕ) → IsPair T i j → AreTwoLeaves T i j
-pair_two T i j pair = ((pair.0, omega (arith, pair.1, pair.2)), (omega (arith, pair.0, pair.1), pair.2), λ same. omega (arith, same, pair.1))
-
-pub two_back : (T : TreeValue) (i j : ℕ) → AreTwoLeaves T i j → AreTwoLeaves T j i
-two_back T i j two = (two.1, two.0, λ same. two.2 (sym same))
-
--- the orders of a pair name leaves
-pub named_orders : (t : Task) (i j : ℕ) → IsPair t.tree i j → All (IsNamed (system_of t)) (no_order i j)
-unfolding tree_system
-named_orders t i j pair =
-    let C : Fact → Type 0 = IsNamed (system_of t) in
-    let two = pair_two t.tree i j pair in
-    let here : IsTrue (are_two_leaves t.tree i j) = leaves_two t.tree i j two.0 two.1 two.2 in
-    let back : IsTrue (are_two_leaves t.tree j i) = leaves_two t.tree j i two.1 two.0 (two_back t.tree i j two).2 in
-    All-cons C (NotBefore X i j) (NotBefore X j i ∷ NotBefore Y i j ∷ NotBefore Y j i ∷ []) here
-    (All-cons C (NotBefore X j i) (NotBefore Y i j ∷ NotBefore Y j i ∷ []) back
-    (All-cons C (NotBefore Y i j) (NotBefore Y j i ∷ []) here
-    (All-cons C (NotBefore Y j i) [] back (λ k d within. absurd (omega (arith, within))))))

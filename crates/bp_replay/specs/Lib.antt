@@ -1,5 +1,9 @@
 pub mod Sets
 pub mod Tasks
+pub mod Cells
+pub mod Readings
+pub mod Tables
+pub mod Leanings
 pub mod Kept
 pub mod Stored
 pub mod Replays

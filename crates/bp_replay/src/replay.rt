@@ -1,19 +1,24 @@
 ghost use Rattle.std.specs.Prelude.{◌≡◌, ◌≤◌, ◌↔◌, [], ◌∷◌, ◌++◌, All, IsTrue, IfOk, OnErr, length, map, if◌then◌else◌};
 ghost use Rattle.bp_base.specs.Limits.{most_number};
-ghost use Rattle.bp_metric.specs.Valid.{NoneBelow};
+ghost use Rattle.bp_base.specs.declared.point.Sheet.TheVariants.{Square};
 ghost use Rattle.bp_arrangement.specs.Swaps.{IsAdmissible, IsCorner, head as head_of};
 ghost use Rattle.bp_lemmas.specs.Standing.{EndsEmpty, Stands};
-ghost use Rattle.bp_replay.specs.Replays.{IsSmallCode};
-ghost use Rattle.bp_replay.specs.Tasks.{system_of};
+ghost use Rattle.bp_mirror.specs.Mirror.{IsMirror};
+ghost use Rattle.bp_mirror.specs.Swaps.{IsMirrorSwap};
+ghost use Rattle.bp_replay.specs.Replays.{IsSmallCode, IsTask};
+ghost use Rattle.bp_replay.specs.Tasks.{IsBelowShown, cornered, mirrored, system_of};
 
 use crate::given::Given;
 use crate::known::Known;
+use crate::reading::Readings;
 use crate::root::first_known;
 use crate::store::Store;
+use crate::ties::{Ties, first_names};
 use crate::unsure::denied;
 use bp_arrangement::{Fact, Hint, head};
 use bp_base::{NoMemory, Pair, Sequence};
 use bp_metric::Metric;
+use bp_mirror::MirrorKind;
 use std::alloc::Global;
 use std::marker::Model;
 
@@ -49,23 +54,52 @@ impl Replay {
         requires bound { bound ≤ most_number }
         requires corner { IsCorner metric.now.tree corner.i corner.j }
         requires swaps { All (IsAdmissible metric.now.tree corner.i corner.j) swaps.now }
-        ensures { IfOk result (λ r. r ≡ record { task = record { tree = metric.now.tree; sheet = metric.now.sheet; bound = bound; corner = corner; heads = map head_of swaps.now }; lemmas = [] }) }
+        ensures { IfOk result (λ r. r ≡ record { task = record { tree = metric.now.tree; sheet = metric.now.sheet; bound = bound; ties = cornered corner; heads = map head_of swaps.now }; lemmas = [] }) }
     {
         let heads = heads_of(alloc, swaps)?;
         let copy = Metric::on(alloc, metric.tree(), metric.sheet())?;
-        let given = Given {
-            metric: copy,
-            bound,
-            corner,
-            heads,
-        };
-        let root = first_known(&given);
-        Ok(Replay {
+        Ok(begun(
             alloc,
-            given,
-            root,
-            store: Store::new(alloc),
-        })
+            Given {
+                metric: copy,
+                bound,
+                ties: Ties::Corner { corner },
+                heads,
+            },
+        ))
+    }
+
+    /// A replay of lemmas that are to prove that no side below the bound serves a placement on the square that is symmetric by the
+    /// mirror. The sheet is a square, the mirror is one of the tree's, and all swaps keep it. The bound, in the units of the kind, is at
+    /// most 999,999,999.
+    pub fn open_mirrored(
+        alloc: Global,
+        metric: &Metric,
+        kind: MirrorKind,
+        mirror: &[Pair],
+        bound: u64,
+        swaps: &[Sequence<Pair>],
+    ) -> Result<Replay, NoMemory>
+        requires bound { bound ≤ most_number }
+        requires sheet { metric.now.sheet ≡ Square }
+        requires is_mirror { IsMirror metric.now.tree mirror.now }
+        requires swaps { All (IsMirrorSwap metric.now.tree mirror.now) swaps.now }
+        ensures { IfOk result (λ r. r ≡ record { task = record { tree = metric.now.tree; sheet = metric.now.sheet; bound = bound; ties = mirrored kind mirror.now; heads = map head_of swaps.now }; lemmas = [] }) }
+    {
+        let heads = heads_of(alloc, swaps)?;
+        let copy = Metric::on(alloc, metric.tree(), metric.sheet())?;
+        let _leaves = copy.leaves();
+        let readings = Readings::of(alloc, kind, mirror)?;
+        let first = first_names(alloc, &copy, &readings)?;
+        Ok(begun(
+            alloc,
+            Given {
+                metric: copy,
+                bound,
+                ties: Ties::Mirror { readings, first },
+                heads,
+            },
+        ))
     }
 
     /// Whether a lemma stands on those before it. One that doesn't, and NoMemory, leave the replay as it was. Facts and hints may
@@ -94,13 +128,28 @@ impl Replay {
         Ok(true)
     }
 
-    /// Whether the last lemma has no facts. Then no side below the bound holds a valid placement, on any finer grid either.
+    /// Whether the last lemma has no facts. Then no side below the bound holds a valid placement, or of a mirror a symmetric one, on any
+    /// finer grid either.
     pub fn proved(&self) -> bool
         ensures exact { IsTrue result ↔ EndsEmpty self.now.lemmas }
-        ensures law { IsTrue result → NoneBelow self.now.task.tree self.now.task.sheet self.now.task.bound }
+        ensures law { IsTrue result → IsBelowShown self.now.task }
     {
         let count = self.store.len();
         count >= 1 && self.store.facts(count).is_empty()
+    }
+}
+
+// A replay of no lemmas.
+fn begun(alloc: Global, given: Given) -> Replay
+    requires { IsTask given }
+    ensures { result ≡ record { task = given; lemmas = [] } }
+{
+    let root = first_known(&given);
+    Replay {
+        alloc,
+        given,
+        root,
+        store: Store::new(alloc),
     }
 }
 

@@ -1,40 +1,57 @@
 // The first knowledge of a root.
-ghost use Rattle.std.specs.Prelude.{◌≡◌, ◌≢◌, ◌<◌, ◌≤◌, ◌-◌, ℕ, [], map, All};
-ghost use Rattle.bp_base.specs.Limits.{most_number};
-ghost use Rattle.bp_base.specs.Tree.{IsLeaf, leaf_count};
-ghost use Rattle.bp_metric.specs.Metric.{IsSheet};
+ghost use Rattle.std.specs.Prelude.{◌≡◌, ◌<◌, ℕ, [], Some, length};
+ghost use Rattle.std.specs.List.{list_any};
+ghost use Rattle.bp_base.specs.declared.point.Axis.{Axis as AnyAxis};
+ghost use Rattle.bp_base.specs.Tree.{leaf_count};
 ghost use Rattle.bp_lemmas.specs.Knowledge.{first_knowledge};
-ghost use Rattle.bp_lemmas.specs.Trees.{axis_of, first_upper as first_upper_of, turned_head};
-ghost use Rattle.bp_replay.specs.Kept.{AreTwoLeaves, Keeps, rows};
+ghost use Rattle.bp_lemmas.specs.Systems.{is_order};
+ghost use Rattle.bp_replay.specs.Cells.{cell_of, places, rows};
+ghost use Rattle.bp_replay.specs.Kept.{AreTwoLeaves, Keeps, has_at};
+ghost use Rattle.bp_replay.specs.Leanings.{corner_of};
 ghost use Rattle.bp_replay.specs.Replays.{IsTask};
-ghost use Rattle.bp_replay.specs.Roots.{partly};
+ghost use Rattle.bp_replay.specs.Roots.{impossible, with_heads as with_heads_of};
 ghost use Rattle.bp_replay.specs.Tasks.{system_of};
 
 use crate::given::Given;
 use crate::known::Known;
-use bp_base::{Axis, Sheet};
+use crate::sets::with;
+use bp_base::{Axis, Pair, Sheet};
 
 // What is known at first.
 pub fn first_known(given: &Given) -> Known
     requires task { IsTask given.now }
     ensures { Keeps given.now result (first_knowledge (system_of given.now)) }
 {
-    let mut root = with_heads(given);
-    let corner = given.corner();
+    let root = with_heads(given);
+    match given.corner() {
+        Some(corner) => with_corner(given, root, corner),
+        None => root,
+    }
+}
+
+// And how the leaves of a corner lie.
+fn with_corner(given: &Given, root: Known, corner: Pair) -> Known
+    requires corner { corner_of given.now.ties ≡ Some corner }
+    requires two { AreTwoLeaves given.now.tree corner.i corner.j }
+    requires few { leaf_count given.now.tree < rows }
+    requires kept { Keeps given.now root (with_heads_of given.now given.now.heads) }
+    ensures { Keeps given.now result (first_knowledge (system_of given.now)) }
+{
+    let mut known = root;
     match given.sheet() {
-        Sheet::Square => root.set_known(given, Axis::X, corner.i, corner.j),
+        Sheet::Square => known.set_known(given, Axis::X, corner.i, corner.j),
         Sheet::Strip { width: _ } => {
-            root.set_known_not(given, Axis::Y, corner.j, corner.i);
-            root.set_known_not(given, Axis::X, corner.j, corner.i);
+            known.set_known_not(given, Axis::Y, corner.j, corner.i);
+            known.set_known_not(given, Axis::X, corner.j, corner.i);
         }
     }
-    root
+    known
 }
 
 // That no second leaf of a head lies before the first. The last head comes first.
 fn with_heads(given: &Given) -> Known
     requires task { IsTask given.now }
-    ensures { Keeps given.now result (partly given.now [] (map (turned_head given.now.tree) given.now.heads)) }
+    ensures { Keeps given.now result (with_heads_of given.now given.now.heads) }
 {
     let mut root = blank(given);
     let count = given.heads();
@@ -47,36 +64,32 @@ fn with_heads(given: &Given) -> Known
 
 fn blank(given: &Given) -> Known
     requires task { IsTask given.now }
-    ensures { Keeps given.now result (partly given.now [] []) }
+    ensures { Keeps given.now result (with_heads_of given.now []) }
 {
     let mut upper = [0; 66];
     for at in 0..66 {
-        upper[at] = first_upper(given, at);
+        upper[at] = given.first_upper(at);
     }
+    let fails = none_fails(given);
     Known {
         lower: [0; 66],
         upper,
         holds: [0; 66],
-        fails: [0; 66],
+        fails,
         broken: given.bound() == 0,
     }
 }
 
-// The first upper code of a coordinate.
-#[tactic(auto, unfolding(bp_lemmas::specs::Trees::axis_of))]
-fn first_upper(given: &Given, at: usize) -> u64
-    requires sheet { IsSheet given.now.sheet }
-    requires bound { given.now.bound ≤ most_number }
-    ensures { result ≡ first_upper_of given.now.sheet given.now.bound (axis_of at) }
+// Of no order it is known that it doesn't hold, but of that which no coordinates meet: its cell is the first.
+fn none_fails(given: &Given) -> [u64; 66]
+    requires few { leaf_count given.now.tree < rows }
+    ensures each { length result ≡ places }
+    ensures kept { (axis : AnyAxis) (i j : ℕ) → AreTwoLeaves given.now.tree i j → has_at result (cell_of given.now axis i j) ≡ list_any (is_order ((system_of given.now).order axis i j)) (impossible given.now.ties) }
 {
-    match given.sheet() {
-        Sheet::Square => 2 * given.bound(),
-        Sheet::Strip { width } => {
-            if at % 2 == 0 {
-                2 * width + 1
-            } else {
-                2 * given.bound()
-            }
-        }
+    let mut fails = [0; 66];
+    match given.corner() {
+        Some(_) => {}
+        None => fails[0] = with(0, 0),
     }
+    fails
 }

@@ -3,9 +3,11 @@ ghost use Rattle.std.specs.Prelude.{◌≡◌, List, [], ◌∷◌, ◌++◌, if
 ghost use Rattle.bp_arrangement.specs.declared.fact.Fact.{Fact as AnyFact};
 ghost use Rattle.bp_arrangement.specs.Facts.{denial};
 ghost use Rattle.bp_lemmas.specs.Standing.{IsNamed};
+ghost use Rattle.bp_lemmas.specs.Systems.{Order, System};
 ghost use Rattle.bp_replay.specs.Tasks.{Task, system_of};
 
 use bp_arrangement::Fact;
+use bp_base::Axis;
 
 #[derive(Clone, Copy)]
 pub enum Unsure {
@@ -30,6 +32,39 @@ impl Unsure {
             Unsure::Nothing => Unsure::Single { fact },
             Unsure::Single { fact: _ } => Unsure::More,
             Unsure::More => Unsure::More,
+        }
+    }
+}
+
+// The orders between two leaves that may hold, as far as a hint asks.
+#[derive(Clone, Copy)]
+pub enum Open {
+    None,
+    One { axis: Axis, first: u64, second: u64 },
+    Several,
+}
+
+impl Open {
+    ghost use Rattle.bp_replay.specs.Kept.{AreOpen, AreTwoLeaves, NamesTwo};
+    ghost use Rattle.bp_base.specs.Tree.{TreeValue};
+
+    // With an order before them, where it may hold and isn't one of them.
+    #[inline]
+    pub fn with(self, out: bool, axis: Axis, first: u64, second: u64) -> Open
+        ensures named { (T : TreeValue) → AreTwoLeaves T first second → NamesTwo T self → NamesTwo T result }
+        ensures open { (S : System) (orders : List Order) → AreOpen S self orders → AreOpen S result (if out then orders else S.order axis first second ∷ orders) }
+    {
+        if out {
+            return self;
+        }
+        match self {
+            Open::None => Open::One {
+                axis,
+                first,
+                second,
+            },
+            Open::One { .. } => Open::Several,
+            Open::Several => Open::Several,
         }
     }
 }

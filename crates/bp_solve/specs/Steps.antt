@@ -18,7 +18,7 @@ use Rattle.bp_certificate.specs.declared.certificate.Lemmas.{Lemmas}
 use Rattle.bp_certificate.specs.Ranges.{IsCertificate}
 use Rattle.bp_verify.specs.Certifies.{Certifies, ProvesFrom, lemma_of}
 use Rattle.bp_replay.specs.Replays.{ReplayValue}
-use Rattle.bp_replay.specs.Tasks.{Task, system_of}
+use Rattle.bp_replay.specs.Tasks.{cornered, Task, system_of}
 use Rattle.bp_solve.specs.declared.solved.Ending.{Ending}
 use Rattle.bp_solve.specs.declared.solved.Ending.TheVariants.{Met, Spent, TooLong, Refused}
 
@@ -66,7 +66,7 @@ pub record IsFed (before : ReplayValue) (l : Lemma) (after : ReplayValue) : Type
 
 -- what lemmas are to prove
 abbrev pub task_of : TreeValue → Sheet → ℕ → Pair → List Pair → Task
-task_of T G bound corner heads = record { tree = T; sheet = G; bound = bound; corner = corner; heads = heads }
+task_of T G bound corner heads = record { tree = T; sheet = G; bound = bound; ties = cornered corner; heads = heads }
 
 -- how a run has ended whose certificate has no lemmas, though none were too long
 abbrev pub IsEndWithout : ℕ → ℕ → ℕ → ℕ → Ending → Type 0

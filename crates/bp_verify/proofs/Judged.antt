@@ -12,7 +12,7 @@ use Rattle.bp_arrangement.specs.declared.fact.Hint.{Hint}
 use Rattle.bp_lemmas.specs.Systems.{System}
 use Rattle.bp_lemmas.specs.Standing.{Lemma, Stands, EndsEmpty, facts_of}
 use Rattle.bp_replay.specs.Replays.{IsSmallCode, ReplayValue}
-use Rattle.bp_replay.specs.Tasks.{Task, system_of}
+use Rattle.bp_replay.specs.Tasks.{cornered, Task, system_of}
 use Rattle.bp_certificate.specs.declared.certificate.Certificate.{Certificate}
 use Rattle.bp_certificate.specs.declared.certificate.CertificateHead.{CertificateHead}
 use Rattle.bp_certificate.specs.declared.certificate.Lemma.{Lemma as LemmaLine}
@@ -55,7 +55,7 @@ module _ (T : TreeValue) (H : CertificateHead) where
   pub begins : (M : MetricValue) (p : Plan) (r : ReplayValue) → M.tree ≡ T → H.sheet ≡ M.sheet → H.plan ≡ Some p → ((C : Certificate) → HasHead C H → IsReasonBefore T C None) → Begins M H.bound p r → HasJudged T H [] (Judge.Standing r 0)
   begins M p r tree sheet planned before is =
       let same : r ≡ record { task = task_of T H is.0 p; lemmas = [] } =
-      is.2 ∙ (λ i. record { task = record { tree = tree i; sheet = sym sheet i; bound = H.bound; corner = is.0; heads = (task_of T H is.0 p).heads }; lemmas = [] }) in
+      is.2 ∙ (λ i. record { task = record { tree = tree i; sheet = sym sheet i; bound = H.bound; ties = cornered is.0; heads = (task_of T H is.0 p).heads }; lemmas = [] }) in
       subst (λ (s : ReplayValue). HasJudged T H [] (Judge.Standing s 0)) (sym same) (
         record { plan = p; corner = is.0; planned = planned; told = is.1; task = refl; sound = sound_head before },
         refl,

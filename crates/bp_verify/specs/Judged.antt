@@ -7,7 +7,7 @@ use Rattle.bp_arrangement.specs.Swaps.{head}
 use Rattle.bp_lemmas.specs.Systems.{System}
 use Rattle.bp_lemmas.specs.Standing.{Lemma, facts_of}
 use Rattle.bp_replay.specs.Replays.{ReplayValue}
-use Rattle.bp_replay.specs.Tasks.{Task, system_of}
+use Rattle.bp_replay.specs.Tasks.{cornered, Task, system_of}
 use Rattle.bp_certificate.specs.declared.certificate.CertificateHead.{CertificateHead}
 use Rattle.bp_certificate.specs.declared.certificate.Lemma.{Lemma as LemmaLine}
 use Rattle.bp_certificate.specs.declared.certificate.Plan.{Plan}
@@ -22,11 +22,11 @@ use Rattle.bp_verify.specs.Verdicts.{IsSoundSoFar}
 -- a replay of no lemma yet, behind this plan
 abbrev pub Begins : MetricValue → ℕ → Plan → ReplayValue → Type 0
 Begins M bound plan r =
-    (corner : Pair) × (plan.corner ≡ Some corner) × (r ≡ record { task = record { tree = M.tree; sheet = M.sheet; bound = bound; corner = corner; heads = map head plan.swaps }; lemmas = [] })
+    (corner : Pair) × (plan.corner ≡ Some corner) × (r ≡ record { task = record { tree = M.tree; sheet = M.sheet; bound = bound; ties = cornered corner; heads = map head plan.swaps }; lemmas = [] })
 
 -- what the lemmas of a head are to prove
 abbrev pub task_of : TreeValue → CertificateHead → Pair → Plan → Task
-task_of T H corner plan = record { tree = T; sheet = H.sheet; bound = H.bound; corner = corner; heads = map head plan.swaps }
+task_of T H corner plan = record { tree = T; sheet = H.sheet; bound = H.bound; ties = cornered corner; heads = map head plan.swaps }
 
 -- no reason stands against a certificate of this head before its lemmas, whatever they are
 abbrev pub IsSoundHead : TreeValue → CertificateHead → Type 0

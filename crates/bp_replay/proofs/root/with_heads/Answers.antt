@@ -1,10 +1,8 @@
-use Rattle.std.proofs.Common.{◌-◌, ◌<◌, List, [], length, sym, subst, arith}
+use Rattle.std.proofs.Common.{◌-◌, ◌<◌, length, sym, subst, arith}
 use Rattle.bp_base.specs.declared.path.Pair.{Pair}
-use Rattle.bp_lemmas.specs.Systems.{Order}
-use Rattle.bp_lemmas.specs.Knowledge.{without_order}
+use Rattle.bp_lemmas.specs.Knowledge.{Knowledge}
 use Rattle.bp_replay.specs.Kept.{AreTwoLeaves, Keeps}
-use Rattle.bp_replay.specs.Roots.{partly}
-use Rattle.bp_replay.proofs.Shown.{two_back}
+use Rattle.bp_replay.proofs.Tied.{two_back}
 use Rattle.bp_replay.proofs.Roots.{named_heads, heads_step}
 use Rattle.bp_replay.proofs.root.with_heads.Goals as goal
 
@@ -21,8 +19,7 @@ set_known_not-requires-clause-two c =
     two_back t.tree c.head-head.result.i c.head-head.result.j two
 
 pub loop-k-preserved : goal.loop-k-preserved
-unfolding without_order
 loop-k-preserved c =
     let t = c.args.given.now in
-    subst (λ (os : List Order). Keeps t c.set_known_not.new.self (partly t [] os)) (sym (heads_step t.tree t.heads c.loop-k.k c.heads-count.result c.head-head.result no_pair c.heads-count.ensures (omega (arith, c.loop-k-test.true)) (c.head-head.ensures no_pair)))
+    subst (λ (K : Knowledge). Keeps t c.set_known_not.new.self K) (heads_step t c.loop-k.k c.heads-count.result c.head-head.result no_pair c.heads-count.ensures (omega (arith, c.loop-k-test.true)) (c.head-head.ensures no_pair))
     (c.set_known_not.ensures _ c.loop-k.invariant)

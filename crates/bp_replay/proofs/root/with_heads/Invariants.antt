@@ -1,8 +1,7 @@
-use Rattle.std.proofs.Common.{◌-◌, [], map, drop, length}
-use Rattle.bp_lemmas.specs.Trees.{turned_head}
+use Rattle.std.proofs.Common.{◌-◌, drop, length}
 use Rattle.bp_replay.specs.Kept.{Keeps}
-use Rattle.bp_replay.specs.Roots.{partly}
+use Rattle.bp_replay.specs.Roots.{with_heads}
 use Rattle.bp_replay.proofs.root.with_heads.Given as goal
 
 abbrev pub invariant-loop-k : goal.invariant-loop-k
-invariant-loop-k l = Keeps l.given l.root (partly l.given [] (map (turned_head l.given.tree) (drop (length l.given.heads - l.k) l.given.heads)))
+invariant-loop-k l = Keeps l.given l.root (with_heads l.given (drop (length l.given.heads - l.k) l.given.heads))

@@ -1,39 +1,54 @@
-use Rattle.std.proofs.Common.{◌≡◌, ℕ, ◌+◌, ◌-◌, ◌*◌, ◌<◌, get_or, ap, ◌∙◌, subst, arith}
-use Rattle.bp_metric.specs.Distance.{leaf_dist}
-use Rattle.bp_lemmas.specs.Knowledge.{raised, lowered, pushed}
-use Rattle.bp_lemmas.specs.Trees.{number, order_of}
+use Rattle.std.proofs.Common.{◌≡◌, ℕ, ◌+◌, ◌*◌, ◌/◌, sym, ap, ◌∙◌, subst, arith}
+use Rattle.bp_lemmas.specs.Systems.{Order}
+use Rattle.bp_lemmas.specs.Knowledge.{lowered, facing_itself_upper, pushed}
+use Rattle.bp_replay.specs.declared.relation.Relation.{Relation}
 use Rattle.bp_replay.specs.Tasks.{system_of}
-use Rattle.bp_replay.specs.Kept.{Keeps, rows, most_code}
+use Rattle.bp_replay.specs.Kept.{Keeps}
+use Rattle.bp_replay.specs.Readings.{Fits, order_as}
 use Rattle.bp_replay.proofs.Breaks.{pushed_stays}
-use Rattle.bp_replay.proofs.Shown.{kept_broken, kept_shows, keeps_broken, number_within, below_most}
+use Rattle.bp_replay.proofs.Shown.{kept_broken, keeps_broken}
+use Rattle.bp_replay.proofs.Tied.{bound_is}
 use Rattle.bp_replay.proofs.known.Known.push.Goals as goal
 
 pub returns-then-self : goal.returns-then-self
 returns-then-self c = λ K keeps.
     let t = c.args.given.now in
-    let o = order_of t.tree c.args.axis c.args.first c.args.second in
+    let o = (system_of t).order c.args.axis c.args.first c.args.second in
     keeps_broken t c.args.self.now (pushed (system_of t) K o) c.if-self.true (pushed_stays (system_of t) K o (kept_broken t c.args.self.now K c.if-self.true keeps))
 
-pub returns : goal.returns
-unfolding pushed order_of
-returns c = λ K keeps.
+pub push_apart-requires-clause-fits : goal.push_apart-requires-clause-fits
+push_apart-requires-clause-fits c = subst (λ (r : Relation). Fits (order_as r)) c.in-Apart.is c.relation.ensures.fits
+
+pub push_facing-requires-clause-fits : goal.push_facing-requires-clause-fits
+push_facing-requires-clause-fits c = subst (λ (r : Relation). Fits (order_as r)) c.in-Facing.is c.relation.ensures.fits
+
+pub lessen-requires : goal.lessen-requires
+lessen-requires c = (subst (λ (r : Relation). Fits (order_as r)) c.in-FacingItself.is c.relation.ensures.fits).0
+
+pub returns-in-Apart : goal.returns-in-Apart
+returns-in-Apart c = λ K keeps.
     let t = c.args.given.now in
-    let S = c.args.self.now in
-    let axis = c.args.axis in
-    let first : c.args.first < rows = omega (arith, c.requires.two.0, c.requires.few) in
-    let second : c.args.second < rows = omega (arith, c.requires.two.1, c.requires.few) in
-    let u = number axis c.args.first in
-    let v = number axis c.args.second in
-    let d = leaf_dist t.tree c.args.first c.args.second in
-    let kept = kept_shows t S K c.if-self.false keeps in
-    let lower : get_or S.lower c.place-from.result 0 ≡ K.lower u = ap (λ (p : ℕ). get_or S.lower p 0) c.place-from.ensures.number ∙ kept.0.lower u (number_within axis c.args.first first) in
-    let upper : get_or S.upper c.place-to.result 0 ≡ K.upper v = ap (λ (p : ℕ). get_or S.upper p 0) c.place-to.ensures.number ∙ kept.0.upper v (number_within axis c.args.second second) in
-    let small : K.lower u < most_code = below_most t S K kept.0 kept.1 u in
-    let low : c.saturating_add-low.result ≡ K.lower u + 2 * d = omega (arith, c.saturating_add-low.ensures, lower, small, c.dist-far.ensures.value, c.dist-far.ensures.small) in
-    let high : c.saturating_sub-high.result ≡ K.upper v - 2 * d = omega (arith, c.saturating_sub-high.ensures, upper, c.dist-far.ensures.value) in
-    let M = raised K v (K.lower u + 2 * d) in
-    let one : Keeps t c.raise.new.self M =
-    subst (λ (code : ℕ). Keeps t c.raise.new.self (raised K v code)) low
-    (subst (λ (p : ℕ). Keeps t c.raise.new.self (raised K p c.saturating_add-low.result)) c.place-to.ensures.number (c.raise.ensures t K keeps)) in
-    subst (λ (code : ℕ). Keeps t c.lessen.new.self (lowered M u code)) high
-    (subst (λ (p : ℕ). Keeps t c.lessen.new.self (lowered M p c.saturating_sub-high.result)) c.place-from.ensures.number (c.lessen.ensures t M one))
+    subst (λ (o : Order). Keeps t c.push_apart.new.self (pushed (system_of t) K o)) (sym (ap order_as c.in-Apart.is) ∙ c.relation.ensures.order) (c.push_apart.ensures t K keeps)
+
+pub returns-in-Facing : goal.returns-in-Facing
+returns-in-Facing c = λ K keeps.
+    let t = c.args.given.now in
+    subst (λ (o : Order). Keeps t c.push_facing.new.self (pushed (system_of t) K o)) (sym (ap order_as c.in-Facing.is) ∙ c.relation.ensures.order) (c.push_facing.ensures K keeps)
+
+pub returns-in-FacingItself : goal.returns-in-FacingItself
+unfolding pushed
+returns-in-FacingItself c = λ K keeps.
+    let t = c.args.given.now in
+    let u = c.in-FacingItself.u in
+    let w = c.in-FacingItself.w in
+    let bound = (system_of t).bound in
+    let same : c.bound.result ≡ bound = c.bound.ensures.value ∙ sym (bound_is t.ties t.tree t.sheet t.bound t.heads) in
+    let code : (c.saturating_sub.result + 1) / 2 * 2 ≡ facing_itself_upper bound w = omega (arith, c.saturating_sub.ensures, same) in
+    subst (λ (o : Order). Keeps t c.lessen.new.self (pushed (system_of t) K o)) (sym (ap order_as c.in-FacingItself.is) ∙ c.relation.ensures.order)
+    (subst (λ (k : ℕ). Keeps t c.lessen.new.self (lowered K u k)) code (c.lessen.ensures t K keeps))
+
+pub returns-in-Never : goal.returns-in-Never
+unfolding pushed
+returns-in-Never c = λ K keeps.
+    let t = c.args.given.now in
+    subst (λ (o : Order). Keeps t c.args.self.now (pushed (system_of t) K o)) (sym (ap order_as c.in-Never.is) ∙ c.relation.ensures.order) keeps

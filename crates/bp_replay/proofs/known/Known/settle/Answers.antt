@@ -1,36 +1,29 @@
-use Rattle.std.proofs.Common.{ℕ, ◌<◌, List, length, get_or, true, refl, sym, subst}
-use Rattle.bp_arrangement.specs.declared.fact.Fact.{Fact}
-use Rattle.bp_lemmas.specs.Knowledge.{with_fact, unsure}
-use Rattle.bp_lemmas.specs.Hints.{now, no_order}
-use Rattle.bp_lemmas.specs.Standing.{IsNamed}
-use Rattle.bp_replay.specs.declared.unsure.Unsure.{Unsure}
+use Rattle.std.proofs.Common.{true, refl, subst}
+use Rattle.bp_lemmas.specs.Systems.{group}
+use Rattle.bp_lemmas.specs.Hints.{open_orders}
+use Rattle.bp_replay.specs.declared.unsure.Open.{Open}
 use Rattle.bp_replay.specs.Tasks.{system_of}
-use Rattle.bp_replay.specs.Kept.{IsLeft, Keeps}
-use Rattle.bp_replay.proofs.Shown.{named_orders}
-use Rattle.bp_replay.proofs.Applied.{comes_nothing, comes_single, comes_more}
+use Rattle.bp_replay.specs.Kept.{AreOpen, NamesTwo}
+use Rattle.bp_replay.proofs.Applied.{open_none, open_one, open_several}
 use Rattle.bp_replay.proofs.known.Known.settle.Goals as goal
 
-pub unsure-requires-clause-named : goal.unsure-requires-clause-named
-unsure-requires-clause-named c = subst (λ (fs : List Fact). (k : ℕ) (d : Fact) → k < length fs → IsNamed (system_of c.args.given.now) (get_or fs k d)) (sym c.orders_of-orders.ensures) (named_orders c.args.given.now c.args.pair.i c.args.pair.j c.requires.pair)
+pub add_order-requires-clause-two : goal.add_order-requires-clause-two
+add_order-requires-clause-two c = subst (NamesTwo c.args.given.now.tree) c.in-One.is c.open_orders.ensures.named
 
-pub returns-in-Nothing : goal.returns-in-Nothing
-returns-in-Nothing c = λ K keeps.
+pub returns-in-None : goal.returns-in-None
+returns-in-None c = λ K keeps.
     let t = c.args.given.now in
-    let left = unsure (system_of t) K (no_order c.args.pair.i c.args.pair.j) in
-    let is_left : IsLeft c.unsure.result left = subst (λ (fs : List Fact). IsLeft c.unsure.result (unsure (system_of t) K fs)) c.orders_of-orders.ensures (c.unsure.ensures.left K keeps c.requires.whole) in
-    comes_nothing t K (record c.args.self.now { broken = true }) (now K) left (subst (λ (u : Unsure). IsLeft u left) c.in-Nothing.is is_left) refl
+    let left = open_orders (system_of t) K (group (system_of t) c.args.pair.i c.args.pair.j) in
+    open_none t K (record c.args.self.now { broken = true }) left (subst (λ (o : Open). AreOpen (system_of t) o left) c.in-None.is (c.open_orders.ensures.open K keeps c.requires.whole)) refl
 
-pub returns-in-Single : goal.returns-in-Single
-returns-in-Single c = λ K keeps.
+pub returns-in-One : goal.returns-in-One
+returns-in-One c = λ K keeps.
     let t = c.args.given.now in
-    let left = unsure (system_of t) K (no_order c.args.pair.i c.args.pair.j) in
-    let is_left : IsLeft c.unsure.result left = subst (λ (fs : List Fact). IsLeft c.unsure.result (unsure (system_of t) K fs)) c.orders_of-orders.ensures (c.unsure.ensures.left K keeps c.requires.whole) in
-    comes_single t K c.add.new.self (now K) c.in-Single.fact left (subst (λ (u : Unsure). IsLeft u left) c.in-Single.is is_left)
-    (subst (λ (f : Fact). Keeps t c.add.new.self (with_fact (system_of t) K f)) c.denied.ensures.value (c.add.ensures K keeps))
+    let left = open_orders (system_of t) K (group (system_of t) c.args.pair.i c.args.pair.j) in
+    open_one t K c.add_order.new.self c.in-One.axis c.in-One.first c.in-One.second left (subst (λ (o : Open). AreOpen (system_of t) o left) c.in-One.is (c.open_orders.ensures.open K keeps c.requires.whole)) (c.add_order.ensures K keeps)
 
-pub returns-in-More : goal.returns-in-More
-returns-in-More c = λ K keeps.
+pub returns-in-Several : goal.returns-in-Several
+returns-in-Several c = λ K keeps.
     let t = c.args.given.now in
-    let left = unsure (system_of t) K (no_order c.args.pair.i c.args.pair.j) in
-    let is_left : IsLeft c.unsure.result left = subst (λ (fs : List Fact). IsLeft c.unsure.result (unsure (system_of t) K fs)) c.orders_of-orders.ensures (c.unsure.ensures.left K keeps c.requires.whole) in
-    comes_more t K c.args.self.now (now K) true left (subst (λ (u : Unsure). IsLeft u left) c.in-More.is is_left) keeps
+    let left = open_orders (system_of t) K (group (system_of t) c.args.pair.i c.args.pair.j) in
+    open_several t K c.args.self.now left (subst (λ (o : Open). AreOpen (system_of t) o left) c.in-Several.is (c.open_orders.ensures.open K keeps c.requires.whole)) keeps

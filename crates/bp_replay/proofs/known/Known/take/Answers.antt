@@ -6,7 +6,7 @@ use Rattle.bp_lemmas.specs.Hints.{after, bad, by_last}
 use Rattle.bp_lemmas.specs.Standing.{IsHint, IsNamed}
 use Rattle.bp_replay.specs.Tasks.{system_of}
 use Rattle.bp_replay.specs.Kept.{Comes}
-use Rattle.bp_replay.proofs.Applied.{named_pair}
+use Rattle.bp_replay.proofs.Tied.{named_pair}
 use Rattle.bp_replay.proofs.known.Known.take.Goals as goal
 
 pub take_pair-requires-clause-pair : goal.take_pair-requires-clause-pair

@@ -19,11 +19,11 @@ returns-then-knows_order c = λ K keeps.
     let t = c.args.given.now in
     let M = pair_pushed (system_of t) K c.args.pair.i c.args.pair.j in
     let kept = c.push_pair.ensures K keeps in
-    rw (sym (c.if-knows_order.ensures t M kept c.if-self.false)) kept
+    rw (sym (c.if-knows_order.ensures M kept c.if-self.false)) kept
 
 pub returns : goal.returns
 returns c = λ K keeps.
     let t = c.args.given.now in
     let M = pair_pushed (system_of t) K c.args.pair.i c.args.pair.j in
     let kept = c.push_pair.ensures K keeps in
-    rw (sym (c.if-knows_order.ensures t M kept c.if-self.false)) (c.settle.ensures M kept)
+    rw (sym (c.if-knows_order.ensures M kept c.if-self.false)) (c.settle.ensures M kept)

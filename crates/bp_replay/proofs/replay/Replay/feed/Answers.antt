@@ -3,7 +3,7 @@ use Rattle.bp_base.specs.Tree.{leaf_count}
 use Rattle.bp_lemmas.specs.Knowledge.{with_facts}
 use Rattle.bp_lemmas.specs.Standing.{Lemma, IsHint, Stands, root_after}
 use Rattle.bp_replay.specs.Tasks.{system_of}
-use Rattle.bp_replay.specs.Kept.{rows}
+use Rattle.bp_replay.specs.Cells.{rows}
 use Rattle.bp_replay.proofs.Feeding.{small_fact, after_one, after_other, next_replay}
 use Rattle.bp_replay.proofs.replay.Replay.feed.Goals as goal
 
