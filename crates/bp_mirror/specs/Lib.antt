@@ -1,5 +1,6 @@
 pub mod Mirror
 pub mod Mirrored
+pub mod Flaws
 pub mod Readings
 pub mod Systems
 pub mod Swaps

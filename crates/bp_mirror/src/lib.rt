@@ -3,8 +3,12 @@
 
 mod kind;
 mod laws;
+mod mirror;
+mod untied;
 
 pub use kind::MirrorKind;
 pub use laws::{
     law_of_mirror_arrangement, law_of_mirror_lemmas, law_of_mirror_readings, law_of_mirror_systems,
 };
+pub use mirror::is_mirror;
+pub use untied::first_flaw;
