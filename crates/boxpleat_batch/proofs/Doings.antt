@@ -7,14 +7,13 @@ use Rattle.std.specs.declared.option.Option.TheVariants.{Some}
 use Rattle.clap.specs.Walk.{Text}
 use Rattle.bp_base.specs.Causes.{Appends, AppendsFront}
 use Rattle.bp_base.specs.Reading.{Told}
-use Rattle.boxpleat_batch.specs.declared.reply.Reply.{Reply}
 use Rattle.boxpleat_batch.specs.declared.status.BatchFault.TheVariants.{TooLong, TooManyPieces}
 use Rattle.boxpleat_batch.specs.declared.status.BatchStatus.{BatchStatus}
 use Rattle.boxpleat_batch.specs.declared.status.BatchStatus.TheVariants.{Done, Refused, Usage, ReadFault, WriteFault, NoMemory}
 use Rattle.boxpleat_batch.specs.Batch.{Does, IsDone, Writes}
 use Rattle.boxpleat_batch.specs.Inputs.{IsInput, IsNoInput}
 use Rattle.boxpleat_batch.specs.Pieces.{most_batch_bytes, most_pieces, pieces_of}
-use Rattle.boxpleat_batch.specs.Replies.{AreReplies, batch_text}
+use Rattle.boxpleat_batch.specs.Replies.{AreReplies, Reply, batch_text}
 use Rattle.boxpleat_batch.specs.Words.{IsNumberOf}
 
 -- an option has one number

@@ -2,13 +2,12 @@
 use Rattle.std.specs.Prelude.{ℕ, ◌<◌, ◌≤◌, List, length}
 use Rattle.std.specs.declared.option.Option.{Option}
 use Rattle.bp_base.specs.Causes.{Appends, AppendsFront, Rose}
-use Rattle.boxpleat_batch.specs.declared.reply.Reply.{Reply}
 use Rattle.boxpleat_batch.specs.declared.status.BatchFault.TheVariants.{TooManyPieces}
 use Rattle.boxpleat_batch.specs.declared.status.BatchStatus.{BatchStatus}
 use Rattle.boxpleat_batch.specs.declared.status.BatchStatus.TheVariants.{Done, Refused, WriteFault, NoMemory}
 use Rattle.boxpleat_batch.specs.Inputs.{IsInput, IsNoInput}
 use Rattle.boxpleat_batch.specs.Pieces.{most_pieces, pieces_of}
-use Rattle.boxpleat_batch.specs.Replies.{AreReplies, batch_text}
+use Rattle.boxpleat_batch.specs.Replies.{AreReplies, Reply, batch_text}
 
 -- the input was read to its end, and these are replies to its pieces in order
 pub record Replies (B : ℕ) (left after : Option (List ℕ)) (replies : List Reply) : Type 0 where

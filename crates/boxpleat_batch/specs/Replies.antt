@@ -1,15 +1,19 @@
 -- What answers a piece, and the text of all answers.
 use Rattle.std.specs.Prelude.{ℕ, ◌+◌, ◌==◌, List, [], ◌∷◌, ◌++◌, codes, decimal, if◌then◌else◌}
 use Rattle.std.specs.List.{AllZip}
-use Rattle.bp_document.specs.Ranges.{IsDocument}
+use Rattle.bp_document.specs.declared.document.Document.{Document}
 use Rattle.bp_document.specs.Text.{doc_text}
+use Rattle.bp_tree.specs.declared.fault.TreeFault.{TreeFault}
 use Rattle.bp_tree.specs.Text.{TreeOf}
 use Rattle.bp_catalogue.specs.Entries.{IsRight}
 use Rattle.bp_engine.specs.declared.status.Status.TheVariants.{TreeRefused}
 use Rattle.bp_engine.specs.Reading.{IsRefused}
 use Rattle.bp_engine.specs.Texts.{text_of}
-use Rattle.boxpleat_batch.specs.declared.reply.Reply.{Reply}
-use Rattle.boxpleat_batch.specs.declared.reply.Reply.TheVariants.{Refused, Designed}
+
+-- the first fault of bytes that are no tree, or a design of their tree
+pub data Reply : Type 0 where
+  Refused : TreeFault → Reply
+  Designed : Document → Reply
 
 -- This answers a piece: its first fault, where it is no tree, or a design of its tree on the square, as `design` writes it with this budget.
 abbrev pub IsReplyTo : ℕ → List ℕ → Reply → Type 0
@@ -19,11 +23,6 @@ IsReplyTo B piece (Designed D) = TreeOf piece D.tree × IsRight B D
 -- each piece has its answer, in order
 abbrev pub AreReplies : ℕ → List (List ℕ) → List Reply → Type 0
 AreReplies B pieces replies = AllZip (IsReplyTo B) pieces replies
-
--- a document of an answer is within the ranges of its text
-abbrev pub CanBeTold : Reply → Type 0
-CanBeTold (Refused fault) = Unit {0}
-CanBeTold (Designed D) = IsDocument D
 
 -- 1 for a fault; 0 for a design whose bound is its side, and else 3
 abbrev pub reply_number : Reply → ℕ

@@ -3,10 +3,9 @@ ghost use Rattle.std.specs.Prelude.{◌≡◌, ◌⊎◌, ◌↔◌, ◌≤◌, 
 ghost use Rattle.bp_base.specs.Causes.{Rose};
 ghost use Rattle.bp_base.specs.Limits.{most_budget};
 ghost use Rattle.bp_engine.specs.Run.{Tells};
-ghost use Rattle.boxpleat_batch.specs.declared.reply.Reply.{Reply};
 ghost use Rattle.boxpleat_batch.specs.Batch.{Does, IsDone, IsUnwritten, Writes};
 ghost use Rattle.boxpleat_batch.specs.Pieces.{most_batch_bytes, most_pieces, pieces_of};
-ghost use Rattle.boxpleat_batch.specs.Replies.{AreReplies, batch_text};
+ghost use Rattle.boxpleat_batch.specs.Replies.{AreReplies, Reply, batch_text};
 ghost use Rattle.boxpleat_batch.specs.Texts.{text_of};
 ghost use Rattle.boxpleat_batch.specs.Words.{IsNumberOf, Takes};
 

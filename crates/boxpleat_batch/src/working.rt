@@ -2,15 +2,16 @@
 ghost use Rattle.std.specs.Prelude.{◌≡◌, ◌≤◌, ◌<◌, All, length, IfOk, IfSome, MatchOption};
 ghost use Rattle.bp_base.specs.Limits.{most_budget};
 ghost use Rattle.bp_catalogue.specs.Entries.{IsRight};
+ghost use Rattle.bp_document.specs.declared.document.Document.{Document as AnyDocument};
 ghost use Rattle.boxpleat_batch.specs.Pieces.{IsWithin};
-ghost use Rattle.boxpleat_batch.specs.Replies.{IsReplyTo};
-ghost use Rattle.boxpleat_batch.specs.Slots.{Answers, AnswersEach};
+ghost use Rattle.boxpleat_batch.specs.Replies.{Designed};
+ghost use Rattle.boxpleat_batch.specs.Slots.{Answers, AnswersEach, IsTold, TellsReplyTo};
 
-use crate::reply::Reply;
+use crate::reply::{Told, told_design, told_fault};
 use crate::slot::Slot;
 use crate::words::Asked;
 use bp_base::{Gate, NoMemory, Tree};
-use bp_catalogue::{Catalogue, copied};
+use bp_catalogue::Catalogue;
 use bp_document::Document;
 use bp_engine::design_tree;
 use bp_tree::{ReadTree, read_tree};
@@ -91,38 +92,51 @@ fn reply_to<R: Wait>(
     piece: &[u8],
     budget: u64,
     shared: &Mutex<Catalogue>,
-) -> Option<Reply>
+) -> Option<Told>
     requires { (1 ≤ budget) × (budget ≤ most_budget) }
-    ensures { IfSome result (λ r. IsReplyTo budget piece.now r) }
+    ensures { IfSome result (TellsReplyTo budget piece.now) }
 {
-    match read_tree(alloc, piece) {
-        Ok(tree) => match design_for(rt, alloc, tree, budget, shared) {
-            Ok(document) => Some(Reply::Designed(document)),
-            Err(NoMemory) => None,
-        },
-        Err(ReadTree::Fault(fault)) => Some(Reply::Refused(fault)),
-        Err(ReadTree::NoMemory) => None,
+    match told_for(rt, alloc, piece, budget, shared) {
+        Ok(told) => Some(told),
+        Err(NoMemory) => None,
     }
 }
 
-// The design that the catalogue has for the tree, or a new one, of which a copy is then put there. No lock is held while it is made.
+fn told_for<R: Wait>(
+    rt: &R,
+    alloc: Global,
+    piece: &[u8],
+    budget: u64,
+    shared: &Mutex<Catalogue>,
+) -> Result<Told, NoMemory>
+    requires { (1 ≤ budget) × (budget ≤ most_budget) }
+    ensures { IfOk result (TellsReplyTo budget piece.now) }
+{
+    match read_tree(alloc, piece) {
+        Ok(tree) => design_for(rt, alloc, tree, budget, shared),
+        Err(ReadTree::Fault(fault)) => told_fault(alloc, fault),
+        Err(ReadTree::NoMemory) => Err(NoMemory),
+    }
+}
+
+// The design that the catalogue has for the tree, or a new one, which is then put there. No lock is held while it is made or told.
 fn design_for<R: Wait>(
     rt: &R,
     alloc: Global,
     tree: Tree,
     budget: u64,
     shared: &Mutex<Catalogue>,
-) -> Result<Document, NoMemory>
+) -> Result<Told, NoMemory>
     requires { (1 ≤ budget) × (budget ≤ most_budget) }
-    ensures { IfOk result (λ D. (D.tree ≡ tree) × IsRight budget D) }
+    ensures { IfOk result (λ t. (D : AnyDocument) × (D.tree ≡ tree) × IsRight budget D × IsTold (Designed D) t) }
 {
     if let Some(document) = found(rt, alloc, &tree, budget, shared)? {
-        return Ok(document);
+        return told_design(alloc, &document);
     }
     let document = design_tree(alloc, tree, budget)?;
-    let copy = copied(alloc, &document)?;
-    keep(rt, copy, budget, shared)?;
-    Ok(document)
+    let told = told_design(alloc, &document)?;
+    keep(rt, document, budget, shared)?;
+    Ok(told)
 }
 
 fn found<R: Wait>(
